@@ -253,3 +253,27 @@ pub struct Fault {
     /// The first bit of the field that fails, counted from the unit's first bit.
     pub bit: u32,
 }
+
+#[cfg(test)]
+mod tests {
+    use super::*;
+    use std::test::Fail;
+
+    #[test]
+    fn numbers_and_names(rt: HostRuntime) -> Result<(), Fail> {
+        let table = [
+            (Field::AfterEnd, 52, "AfterEnd"),
+            (Field::UnitHeader, 1, "UnitHeader"),
+            (Field::UnitParity, 16, "UnitParity"),
+            (Field::SegmentShort, 47, "SegmentShort"),
+            (Field::LosslessCheck, 29, "LosslessCheck"),
+            (Field::HuffLsbs, 43, "HuffLsbs"),
+            (Field::FrameCount, 48, "FrameCount"),
+        ];
+        for (field, number, name) in table.iter() {
+            assert_eq!(rt; field.number(), *number);
+            assert_eq!(rt; field.name(), *name);
+        }
+        Ok(())
+    }
+}
