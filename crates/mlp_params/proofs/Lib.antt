@@ -1,0 +1,3 @@
+pub mod RestartLaws
+pub mod SeriesReading
+pub mod CheckReading

@@ -1,0 +1,20 @@
+-- The restart header is a layout.
+use Rattle.std.proofs.Common.{◌≡◌, ℕ, ◌≤◌, Bool, List, length, Ok}
+use Rattle.mlp_syntax.specs.declared.major.Kind.{Kind}
+use Rattle.mlp_layout.specs.Layout.{Layout, IsLayout}
+use Rattle.mlp_layout.proofs.LayoutLaws.{is_found}
+use Rattle.mlp_layout.proofs.CombinedLaws.{layouts, checked_is, fixed_is}
+use Rattle.mlp_params.specs.Allowed.{Allowed}
+use Rattle.mlp_params.specs.RestartHeader.{restart_fields, restart}
+
+pub restart_fields_is : (format : Kind) → IsLayout (restart_fields format)
+unfolding restart_fields
+restart_fields_is format = fixed_is _ _ _ (search layouts depth 60)
+
+pub restart_is : (format : Kind) → IsLayout (restart format)
+unfolding restart
+restart_is format = checked_is _ _ _ (restart_fields_is format)
+
+-- what was read fits and meets the rules
+pub allowed : {A : Type 0} {l : Layout A} → IsLayout l → (all : List Bool) (p : ℕ) → p ≤ length all → (x : A) (q : ℕ) → l.read all p ≡ Ok (x, q) → Allowed l x
+allowed is all p le x q h = let f = is_found is all p le (x, q) h in record { fits = f.0.fits; meets = f.0.meets }

@@ -1,0 +1,7 @@
+//! Restart headers and decoding parameters, read and written, and the parameters in force.
+#![tactic(auto)]
+
+mod header;
+pub mod laws;
+
+pub use header::read_restart;
