@@ -1,0 +1,2 @@
+pub mod MajorLaws
+pub mod SyncReading

@@ -1,0 +1,11 @@
+//! The major sync of an access unit. Source: Dolby TrueHD (MLP) high-level bitstream description, "major_sync_info".
+#![tactic(auto)]
+
+mod format;
+pub mod laws;
+mod rate;
+mod reading;
+mod rules;
+
+pub use rate::{frames_per_unit, sample_rate};
+pub use reading::{read_major, read_sync};
