@@ -1,3 +1,5 @@
+pub mod CheckReading
+pub mod InForceLaws
+pub mod ParameterLaws
 pub mod RestartLaws
 pub mod SeriesReading
-pub mod CheckReading

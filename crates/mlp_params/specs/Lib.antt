@@ -1,2 +1,8 @@
 pub mod Allowed
 pub mod RestartHeader
+pub mod Filters
+pub mod Matrices
+pub mod Parameters
+pub mod InForce
+pub mod Applied
+pub mod States

@@ -3,5 +3,7 @@
 
 mod header;
 pub mod laws;
+mod state;
 
 pub use header::read_restart;
+pub use state::{ChannelState, State};
