@@ -1,0 +1,391 @@
+-- What stands after each turn of the loop, and what follows at each exit.
+use Rattle.std.proofs.Common.{◌≡◌, ℕ, ◌+◌, ◌-◌, ◌<◌, ◌≤◌, ◌++◌, Bool, true, false, List, [], ◌∷◌, length, take, drop, Result, Ok, Err, Option, Some, None, IfSome, OnOk, IfErr, inl, inr, refl, sym, ap, subst, ◌∙◌, append_assoc, arith, length-drop, length-append, take-append-drop, if◌then◌else◌}
+use Rattle.std.proofs.lemmas.Bool.{cases_lt, lt-leb, le-leb}
+use Rattle.std.proofs.lemmas.List.{append-nil, nil_from_length, take_at}
+use Rattle.std.proofs.Math.Seq.{take-append-add}
+use Rattle.std.proofs.KnownBytes.{Consumes-nil, Consumes-trans, Appends-nil, Appends-trans}
+use Rattle.std.specs.Io.KnownBytes.{Consumes, Appends, IsAtEnd}
+use Rattle.mlp_stream.specs.declared.refusal.Refusal.{Refusal}
+use Rattle.mlp_stream.specs.declared.window.Rest.{Rest}
+use Rattle.mlp_stream.specs.declared.window.Rest.TheVariants.{More, Ended, Over}
+use Rattle.mlp_stream.specs.declared.stop.Stop.{Stop}
+use Rattle.mlp_stream.specs.declared.stop.Stop.TheVariants.{Usage, Refused, ReadFault, WriteFault, OutOfMemory, TooLong}
+use Rattle.mlp_stream.specs.Moves.{Move, Waits, Takes, Refuses, IsMove, IsSession}
+use Rattle.mlp_stream.specs.Streams.{Outcome, after, stopped, finished, answer, outcome, IsPrefix}
+use Rattle.mlp_stream.specs.Sizes.{most_of_unit, window_room, limit}
+use Rattle.mlp_stream.specs.Held.{Held, is_ended, Gave, GaveMore, Refills, Fails}
+use Rattle.mlp_stream.specs.Pumped.{IsAnswer, IsTimely, Pumped, IsUnitStop, IsLastStop}
+use Rattle.mlp_stream.proofs.Runs.{Went, here, snoc, grow, whole, early, settled_at, takes, went_nil, outcome-takes, outcome-refuses, outcome-waits, outcome-nil}
+
+-- bytes that an input that tells its bytes lost were in front
+consumed : (a b : Option (List ℕ)) (got all : List ℕ) → Consumes a b got → a ≡ Some all → (ys : List ℕ) × (b ≡ Some ys) × (all ≡ got ++ ys)
+consumed None b got all p e = absurd cc
+consumed (Some x) None got all p e = absurd p
+consumed (Some x) (Some y) got all p e = let same : x ≡ all = cc in (y, refl, sym same ∙ p)
+
+at_end_nil : (b : Option (List ℕ)) (ys : List ℕ) → b ≡ Some ys → IsAtEnd b → ys ≡ []
+at_end_nil None ys e p = absurd cc
+at_end_nil (Some x) ys e p = let same : x ≡ ys = cc in sym same ∙ p
+
+if_told : (o : Option (List ℕ)) (P : List ℕ → Type 0) → ((all : List ℕ) → o ≡ Some all → P all) → IfSome o P
+if_told None P h = tt
+if_told (Some x) P h = h x refl
+
+-- all that an input has: what it gave, and what is left
+record Told (rest : Rest) (taken : ℕ) (got all : List ℕ) : Type 0 where
+  left : List ℕ
+  whole_is : all ≡ got ++ left
+  ended : rest ≡ Ended → left ≡ []
+  over : rest ≡ Over → (0 < length left) × (taken ≡ limit)
+
+told : (rest : Rest) (taken : ℕ) (a b : Option (List ℕ)) (got all : List ℕ) → Gave rest taken a b got → a ≡ Some all → Told rest taken got all
+told More taken a b got all g e = let c = consumed a b got all g e in record { left = c.0; whole_is = c.2; ended = λ x. absurd cc; over = λ x. absurd cc }
+told Ended taken a b got all g e = let c = consumed a b got all g.0 e in record { left = c.0; whole_is = c.2; ended = λ x. at_end_nil b c.0 c.1 g.1; over = λ x. absurd cc }
+told Over taken a b got all g e =
+    let c = consumed a b (got ++ g.0 ∷ []) all g.1 e in
+    record { left = g.0 ∷ c.0; whole_is = c.2 ∙ append_assoc got (g.0 ∷ []) c.0; ended = λ x. absurd cc; over = λ x. (omega arith, g.2) }
+
+is_some_move : {S : Type 0} (m : Move S) → (m ≡ Waits → ⊥) → IsMove m
+is_some_move Waits h = h refl
+is_some_move (Takes n out t) h = tt
+is_some_move (Refuses r) h = tt
+
+-- from the first session s, with what the input and the output held, to now
+pub record Along {S : Type 0} (step : S → Bool → List ℕ → Move S) (count : S → ℕ) (s t : S) (input left written now : Option (List ℕ)) (window : Held) : Type 0 where
+  pub got : List ℕ
+  pub put : List ℕ
+  pub went : Went step (is_ended window.rest) s got put t window.bytes
+  pub gave : Gave window.rest window.taken input left got
+  pub wrote : Appends written now put
+  pub long : length got ≡ window.taken
+  pub within : window.taken ≤ limit
+  pub counted : count t + length window.bytes ≤ length got
+
+abbrev ended_by : Result Unit Stop → List ℕ → Outcome
+ended_by end output = record { end = end; output = output }
+
+module _ {S : Type 0} (step : S → Bool → List ℕ → Move S) (last : S → Result (List ℕ) Refusal) (count : S → ℕ) (laws : IsSession step count) where
+  pub begin : (s : S) (input written : Option (List ℕ)) → count s ≡ 0 → Along step count s s input input written written (record { bytes = []; taken = 0; rest = More })
+  begin s input written none = record { got = []; put = []; went = here; gave = Consumes-nil input; wrote = Appends-nil written; long = refl; within = omega arith; counted = omega arith }
+
+  gave_same : (old new : Rest) (taken before : ℕ) (a b c : Option (List ℕ)) (xs ys : List ℕ) → Gave old before a b xs → new ≡ old → ys ≡ [] → c ≡ b → taken ≡ before → Gave new taken a c (xs ++ ys)
+  gave_same old new taken before a b c xs ys g new_is none c_is taken_is =
+      subst (λ (r : Rest). Gave r taken a c (xs ++ ys)) (sym new_is) (subst (λ (o : Option (List ℕ)). Gave old taken a o (xs ++ ys)) (sym c_is)
+      (subst (λ (l : List ℕ). Gave old taken a b l) (sym (ap (λ (l : List ℕ). xs ++ l) none ∙ append-nil xs)) (subst (λ (k : ℕ). Gave old k a b xs) (sym taken_is) g)))
+
+  gave_on : (old new : Rest) (taken before : ℕ) (a b c : Option (List ℕ)) (xs ys : List ℕ) → Gave old before a b xs → GaveMore old new taken b c ys → taken ≡ before + length ys → Gave new taken a c (xs ++ ys)
+  gave_on More More taken before a b c xs ys g h e = Consumes-trans a b c xs ys g h
+  gave_on More Ended taken before a b c xs ys g h e = (Consumes-trans a b c xs ys g h.0, h.1)
+  gave_on More Over taken before a b c xs ys g h e = (h.0, subst (Consumes a c) (sym (append_assoc xs ys (h.0 ∷ []))) (Consumes-trans a b c xs (ys ++ h.0 ∷ []) g h.1), h.2)
+  gave_on Ended new taken before a b c xs ys g h e = gave_same Ended new taken before a b c xs ys g h.0 h.1 h.2 (omega (arith, ap length h.1))
+  gave_on Over new taken before a b c xs ys g h e = gave_same Over new taken before a b c xs ys g h.0 h.1 h.2 (omega (arith, ap length h.1))
+
+  went_same : (old new : Rest) (s t : S) (xs ys put zs : List ℕ) → new ≡ old → ys ≡ [] → Went step (is_ended old) s xs put t zs → Went step (is_ended new) s (xs ++ ys) put t (zs ++ ys)
+  went_same old new s t xs ys put zs new_is none w =
+      subst (λ (r : Rest). Went step (is_ended r) s (xs ++ ys) put t (zs ++ ys)) (sym new_is) (subst (λ (l : List ℕ). Went step (is_ended old) s (xs ++ l) put t (zs ++ l)) (sym none) (went_nil step last count laws (is_ended old) w))
+
+  went_on : (old new : Rest) (taken : ℕ) (b c : Option (List ℕ)) (s t : S) (xs ys put zs : List ℕ) → GaveMore old new taken b c ys → Went step (is_ended old) s xs put t zs → Went step (is_ended new) s (xs ++ ys) put t (zs ++ ys)
+  went_on More new taken b c s t xs ys put zs h w = grow step last count laws (is_ended new) ys w
+  went_on Ended new taken b c s t xs ys put zs h w = went_same Ended new s t xs ys put zs h.0 h.1 w
+  went_on Over new taken b c s t xs ys put zs h w = went_same Over new s t xs ys put zs h.0 h.1 w
+
+  pub refills : (s t : S) (input left next written now : Option (List ℕ)) (old new : Held) → Along step count s t input left written now old → Refills old new left next → Along step count s t input next written now new
+  refills s t input left next written now old new a r = record {
+    got = a.got ++ r.got;
+    put = a.put;
+    went = subst (λ (x : List ℕ). Went step (is_ended new.rest) s (a.got ++ r.got) a.put t x) (sym r.bytes) (went_on old.rest new.rest new.taken left next s t a.got r.got a.put old.bytes r.gave a.went);
+    gave = gave_on old.rest new.rest new.taken old.taken input left next a.got r.got a.gave r.gave r.taken;
+    wrote = a.wrote;
+    long = omega (arith, length-append a.got r.got, a.long, r.taken);
+    within = r.within;
+    counted = omega (arith, a.counted, ap length r.bytes, length-append old.bytes r.got, length-append a.got r.got);
+  }
+
+  -- what the session does with the bytes that the window has
+  step_of : Rest → S → List ℕ → Move S
+  step_of rest s bytes = step s (is_ended rest) bytes
+
+  pub goes_on : (s t u : S) (input left written now later : Option (List ℕ)) (window : Held) (n : ℕ) (out : List ℕ) → Along step count s t input left written now window
+      → step t (is_ended window.rest) window.bytes ≡ Takes n out u → 0 < length window.bytes → Appends now later out → Along step count s u input left written later (record window { bytes = drop n window.bytes })
+  goes_on s t u input left written now later window n out a e some w =
+      let k = takes step last count laws t window.bytes (is_ended window.rest) n out u e in
+      record {
+        got = a.got;
+        put = a.put ++ out;
+        went = snoc step last count laws (is_ended window.rest) n out a.went e some;
+        gave = a.gave;
+        wrote = Appends-trans written now later a.put out a.wrote w;
+        long = a.long;
+        within = a.within;
+        counted = omega (arith, a.counted, length-drop n window.bytes, k.0, k.1, k.2);
+      }
+
+  -- what a step says with all that is in the window, once it has enough
+  pub step_now : (rest : Rest) (s : S) (bytes : List ℕ) (m : Move S) → (rest ≡ More → most_of_unit ≤ length bytes) → (rest ≡ Over → step s false bytes ≡ Waits → ⊥) → step s true bytes ≡ m → step s (is_ended rest) bytes ≡ m
+  step_now More s bytes m enough whole_unit e = sym (settled_at step last count laws s bytes (laws.enough s bytes (enough refl))) ∙ e
+  step_now Ended s bytes m enough whole_unit e = e
+  step_now Over s bytes m enough whole_unit e = sym (settled_at step last count laws s bytes (is_some_move (step s false bytes) (whole_unit refl))) ∙ e
+
+  answer-within : (s : S) (all : List ℕ) → length all ≤ limit → answer step last limit s all ≡ outcome step last true s all
+  answer-within s all le = ap (λ (b : Bool). if b then outcome step last true s all else outcome step last false s (take limit all)) (le-leb (length all) limit le)
+
+  answer-past : (s : S) (all : List ℕ) → limit < length all → answer step last limit s all ≡ outcome step last false s (take limit all)
+  answer-past s all lt = ap (λ (b : Bool). if b then outcome step last true s all else outcome step last false s (take limit all)) (lt-leb (length all) limit lt)
+
+  -- the answer to all of the input is what came out so far, and what is made of the window with what may follow
+  record Ahead (s t : S) (all put bytes : List ℕ) (rest : Rest) : Type 0 where
+    ended : Bool
+    more : List ℕ
+    is : answer step last limit s all ≡ after put (outcome step last ended t (bytes ++ more))
+    same : IsMove (step t (is_ended rest) bytes) → step t ended (bytes ++ more) ≡ step t (is_ended rest) bytes
+    last_of : rest ≡ Ended → (ended ≡ true) × (more ≡ [])
+    cut : rest ≡ Over → (ended ≡ false) × (more ≡ [])
+
+  ahead_within : (s t : S) (got put bytes left : List ℕ) → length (got ++ left) ≤ limit → Went step false s got put t bytes → Ahead s t (got ++ left) put bytes More
+  ahead_within s t got put bytes left le w = record {
+    ended = true;
+    more = left;
+    is = answer-within s (got ++ left) le ∙ whole step last count laws true (grow step last count laws true left w);
+    same = laws.settled t bytes left true;
+    last_of = λ e. absurd cc;
+    cut = λ e. absurd cc;
+  }
+
+  take-front : (xs ys : List ℕ) (n : ℕ) → length xs ≤ n → take n (xs ++ ys) ≡ xs ++ take (n - length xs) ys
+  take-front xs ys n le = let e : length xs + (n - length xs) ≡ n = omega arith in subst (λ (k : ℕ). take k (xs ++ ys) ≡ xs ++ take (n - length xs) ys) e (take-append-add xs ys (n - length xs))
+
+  ahead_past : (s t : S) (got put bytes left : List ℕ) → limit < length (got ++ left) → length got ≤ limit → Went step false s got put t bytes → Ahead s t (got ++ left) put bytes More
+  ahead_past s t got put bytes left lt le w =
+      let more = take (limit - length got) left in
+      record {
+        ended = false;
+        more = more;
+        is = answer-past s (got ++ left) lt ∙ ap (outcome step last false s) (take-front got left limit le) ∙ whole step last count laws false (grow step last count laws false more w);
+        same = laws.settled t bytes more false;
+        last_of = λ e. absurd cc;
+        cut = λ e. absurd cc;
+      }
+
+  ahead_of : (rest : Rest) (s t : S) (got put bytes left : List ℕ) (taken : ℕ) → Went step (is_ended rest) s got put t bytes → length got ≡ taken → taken ≤ limit → (rest ≡ Ended → left ≡ []) → (rest ≡ Over → (0 < length left) × (taken ≡ limit))
+      → Ahead s t (got ++ left) put bytes rest
+  ahead_of More s t got put bytes left taken w long within e o =
+      elim (cases_lt limit (length (got ++ left))) [
+        | inl lt ↦ ahead_past s t got put bytes left lt (omega arith) w
+        | inr le ↦ ahead_within s t got put bytes left le w
+      ]
+  ahead_of Ended s t got put bytes left taken w long within e o =
+      let none = e refl in
+      let all_is : got ≡ got ++ left = sym (ap (λ (l : List ℕ). got ++ l) none ∙ append-nil got) in
+      record {
+        ended = true;
+        more = [];
+        is = subst (λ (l : List ℕ). answer step last limit s l ≡ after put (outcome step last true t (bytes ++ []))) all_is
+            (answer-within s got (omega arith) ∙ whole step last count laws true w ∙ ap (λ (l : List ℕ). after put (outcome step last true t l)) (sym (append-nil bytes)));
+        same = λ m. ap (step t true) (append-nil bytes);
+        last_of = λ x. (refl, refl);
+        cut = λ x. absurd cc;
+      }
+  ahead_of Over s t got put bytes left taken w long within e o =
+      let past = o refl in
+      record {
+        ended = false;
+        more = [];
+        is = answer-past s (got ++ left) (omega (arith, length-append got left, past.0, past.1, long)) ∙ ap (outcome step last false s) (take_at got left limit (long ∙ past.1)) ∙ whole step last count laws false w ∙ ap (λ (l : List ℕ). after put (outcome step last false t l)) (sym (append-nil bytes));
+        same = λ m. ap (step t false) (append-nil bytes);
+        last_of = λ x. absurd cc;
+        cut = λ x. (refl, refl);
+      }
+
+  ahead : (s t : S) (input left written now : Option (List ℕ)) (window : Held) (a : Along step count s t input left written now window) (all : List ℕ) → input ≡ Some all → Ahead s t all a.put window.bytes window.rest
+  ahead s t input left written now window a all e =
+      let h = told window.rest window.taken input left a.got all a.gave e in
+      subst (λ (l : List ℕ). Ahead s t l a.put window.bytes window.rest) (sym h.whole_is) (ahead_of window.rest s t a.got a.put window.bytes h.left window.taken a.went a.long a.within h.ended h.over)
+
+  -- ---- the exits
+
+  taken_of : (rest : Rest) (n : ℕ) (input left : Option (List ℕ)) (got : List ℕ) → Gave rest n input left got → (taken : List ℕ) × Consumes input left taken
+  taken_of More n input left got g = (got, g)
+  taken_of Ended n input left got g = (got, g.0)
+  taken_of Over n input left got g = (got ++ g.0 ∷ [], g.1)
+
+  stopped_here : (s t : S) (all put bytes : List ℕ) (rest : Rest) (h : Ahead s t all put bytes rest) (stop : Stop) → outcome step last h.ended t (bytes ++ h.more) ≡ stopped stop → answer step last limit s all ≡ record { end = Err stop; output = put }
+  stopped_here s t all put bytes rest h stop e = h.is ∙ ap (after put) e ∙ ap (λ (l : List ℕ). ended_by (Err stop) l) (append-nil put)
+
+  -- an exit with an answer
+  answered : (s t : S) (input left written now : Option (List ℕ)) (window : Held) (a : Along step count s t input left written now window) (stop : Stop)
+      → ((all : List ℕ) (h : Ahead s t all a.put window.bytes window.rest) → outcome step last h.ended t (window.bytes ++ h.more) ≡ stopped stop) → IsAnswer step last s input (Err stop) a.put
+  answered s t input left written now window a stop go =
+      if_told input _ (λ all e. let h = ahead s t input left written now window a all e in stopped_here s t all a.put window.bytes window.rest h stop (go all h))
+
+  longer : (bytes more : List ℕ) → 0 < length bytes → 0 < length (bytes ++ more)
+  longer bytes more l = omega (arith, length-append bytes more)
+
+  -- the next unit is refused, or cut off by the limit
+  pub at_unit : (s t : S) (input left written now : Option (List ℕ)) (window : Held) (stop : Stop) → Along step count s t input left written now window → 0 < length window.bytes
+      → IsUnitStop (step t (is_ended window.rest) window.bytes) window.rest stop → Pumped step last s input left written now (Err stop)
+  at_unit s t input left written now window Usage a some e = absurd e
+  at_unit s t input left written now window (Refused r) a some e =
+      let k = taken_of window.rest window.taken input left a.got a.gave in
+      record {
+        taken = k.0;
+        put = a.put;
+        reads = k.1;
+        writes = a.wrote;
+        says = answered s t input left written now window a (Refused r) (λ all h.
+            outcome-refuses step last count laws h.ended t (window.bytes ++ h.more) r (h.same (subst IsMove (sym e) tt) ∙ e) (longer window.bytes h.more some));
+      }
+  at_unit s t input left written now window TooLong a some e =
+      let k = taken_of window.rest window.taken input left a.got a.gave in
+      record {
+        taken = k.0;
+        put = a.put;
+        reads = k.1;
+        writes = a.wrote;
+        says = answered s t input left written now window a TooLong (λ all h.
+            let waits : step t (is_ended Over) window.bytes ≡ Waits = subst (λ (r : Rest). step t (is_ended r) window.bytes ≡ Waits) e.1 e.0 in
+            let c = h.cut e.1 in
+            let here_too : step t h.ended (window.bytes ++ h.more) ≡ Waits = subst (λ (b : Bool). step t b (window.bytes ++ h.more) ≡ Waits) (sym c.0) (subst (λ (l : List ℕ). step t false l ≡ Waits) (sym (ap (λ (l : List ℕ). window.bytes ++ l) c.1 ∙ append-nil window.bytes)) waits) in
+            outcome-waits step last count laws h.ended t (window.bytes ++ h.more) here_too (longer window.bytes h.more some));
+      }
+  at_unit s t input left written now window ReadFault a some e = absurd e
+  at_unit s t input left written now window WriteFault a some e = absurd e
+  at_unit s t input left written now window OutOfMemory a some e = absurd e
+
+  ended_cases : (rest : Rest) → (rest ≡ More → ⊥) → (rest ≡ Over → ⊥) → rest ≡ Ended
+  ended_cases More m o = absurd (m refl)
+  ended_cases Ended m o = refl
+  ended_cases Over m o = absurd (o refl)
+
+  -- what is made of nothing at the end
+  at_last : (s t : S) (all put bytes : List ℕ) (rest : Rest) (h : Ahead s t all put bytes rest) → bytes ≡ [] → rest ≡ Ended → outcome step last h.ended t (bytes ++ h.more) ≡ finished (last t)
+  at_last s t all put bytes rest h none e =
+      let k = h.last_of e in
+      subst (λ (b : Bool). outcome step last b t (bytes ++ h.more) ≡ finished (last t)) (sym k.0) (subst (λ (l : List ℕ). outcome step last true t l ≡ finished (last t)) (sym (ap (λ (l : List ℕ). l ++ h.more) none ∙ k.1)) (outcome-nil step last count laws true t))
+
+  at_limit : (s t : S) (all put bytes : List ℕ) (rest : Rest) (h : Ahead s t all put bytes rest) → bytes ≡ [] → rest ≡ Over → outcome step last h.ended t (bytes ++ h.more) ≡ stopped TooLong
+  at_limit s t all put bytes rest h none e =
+      let k = h.cut e in
+      subst (λ (b : Bool). outcome step last b t (bytes ++ h.more) ≡ stopped TooLong) (sym k.0) (subst (λ (l : List ℕ). outcome step last false t l ≡ stopped TooLong) (sym (ap (λ (l : List ℕ). l ++ h.more) none ∙ k.1)) (outcome-nil step last count laws false t))
+
+  not_more : (window : Held) → (window.rest ≡ More → most_of_unit ≤ length window.bytes) → length window.bytes ≡ 0 → window.rest ≡ More → ⊥
+  not_more window ready none e = let l = ready e in omega arith
+
+  -- the end is refused, or past the limit
+  pub at_last_stop : (s t : S) (input left written now : Option (List ℕ)) (window : Held) (stop : Stop) → Along step count s t input left written now window → length window.bytes ≡ 0 → (window.rest ≡ More → most_of_unit ≤ length window.bytes)
+      → IsLastStop (last t) window.rest stop → Pumped step last s input left written now (Err stop)
+  at_last_stop s t input left written now window Usage a none ready e = absurd e
+  at_last_stop s t input left written now window (Refused r) a none ready e =
+      let k = taken_of window.rest window.taken input left a.got a.gave in
+      let is_end = ended_cases window.rest (not_more window ready none) e.1 in
+      record {
+        taken = k.0;
+        put = a.put;
+        reads = k.1;
+        writes = a.wrote;
+        says = answered s t input left written now window a (Refused r) (λ all h. at_last s t all a.put window.bytes window.rest h (nil_from_length window.bytes none) is_end ∙ ap finished e.0);
+      }
+  at_last_stop s t input left written now window TooLong a none ready e =
+      let k = taken_of window.rest window.taken input left a.got a.gave in
+      record {
+        taken = k.0;
+        put = a.put;
+        reads = k.1;
+        writes = a.wrote;
+        says = answered s t input left written now window a TooLong (λ all h. at_limit s t all a.put window.bytes window.rest h (nil_from_length window.bytes none) e);
+      }
+  at_last_stop s t input left written now window ReadFault a none ready e = absurd e
+  at_last_stop s t input left written now window WriteFault a none ready e = absurd e
+  at_last_stop s t input left written now window OutOfMemory a none ready e = absurd e
+
+  end_of : (rest : Rest) (n : ℕ) (input left : Option (List ℕ)) (got : List ℕ) → Gave rest n input left got → rest ≡ Ended → IsAtEnd left
+  end_of More n input left got g e = absurd cc
+  end_of Ended n input left got g e = g.1
+  end_of Over n input left got g e = absurd cc
+
+  -- the end
+  pub at_end : (s t : S) (input left written now later : Option (List ℕ)) (window : Held) (out : List ℕ) → Along step count s t input left written now window → length window.bytes ≡ 0 → (window.rest ≡ More → most_of_unit ≤ length window.bytes)
+      → (window.rest ≡ Over → ⊥) → last t ≡ Ok out → Appends now later out → Pumped step last s input left written later (Ok tt)
+  at_end s t input left written now later window out a none ready over e w =
+      let k = taken_of window.rest window.taken input left a.got a.gave in
+      let is_end = ended_cases window.rest (not_more window ready none) over in
+      record {
+        taken = k.0;
+        put = a.put ++ out;
+        reads = k.1;
+        writes = Appends-trans written now later a.put out a.wrote w;
+        says = (
+          end_of window.rest window.taken input left a.got a.gave is_end,
+          if_told input _ (λ all told_is. let h = ahead s t input left written now window a all told_is in
+              h.is ∙ ap (after a.put) (at_last s t all a.put window.bytes window.rest h (nil_from_length window.bytes none) is_end ∙ ap finished e)),
+        );
+      }
+
+  -- a write failed behind n bytes, of what was to come out next
+  write_failed : (s t : S) (input left written now later : Option (List ℕ)) (window : Held) (out : List ℕ) (n : ℕ) (a : Along step count s t input left written now window)
+      → ((all : List ℕ) (h : Ahead s t all a.put window.bytes window.rest) → IsPrefix out (outcome step last h.ended t (window.bytes ++ h.more)).output) → Appends now later (take n out) → Pumped step last s input left written later (Err WriteFault)
+  write_failed s t input left written now later window out n a go w =
+      let k = taken_of window.rest window.taken input left a.got a.gave in
+      record {
+        taken = k.0;
+        put = a.put ++ take n out;
+        reads = k.1;
+        writes = Appends-trans written now later a.put (take n out) a.wrote w;
+        says = if_told input _ (λ all told_is.
+            let h = ahead s t input left written now window a all told_is in
+            let p = go all h in
+            let rest = drop n out ++ p.0 in
+            (rest, ap (λ (o : Outcome). o.output) h.is ∙ ap (λ (l : List ℕ). a.put ++ l) (p.1 ∙ ap (λ (l : List ℕ). l ++ p.0) (sym (take-append-drop n out)) ∙ append_assoc (take n out) (drop n out) p.0) ∙ sym (append_assoc a.put (take n out) rest)));
+      }
+
+  pub at_write : (s t u : S) (input left written now later : Option (List ℕ)) (window : Held) (used : ℕ) (out : List ℕ) (n : ℕ) → Along step count s t input left written now window → 0 < length window.bytes
+      → step t (is_ended window.rest) window.bytes ≡ Takes used out u → Appends now later (take n out) → Pumped step last s input left written later (Err WriteFault)
+  at_write s t u input left written now later window used out n a some e w =
+      write_failed s t input left written now later window out n a (λ all h.
+      ((outcome step last h.ended u (drop used (window.bytes ++ h.more))).output, ap (λ (o : Outcome). o.output) (outcome-takes step last count laws h.ended t (window.bytes ++ h.more) used out u (h.same (subst IsMove (sym e) tt) ∙ e) (longer window.bytes h.more some)))) w
+
+  pub at_last_write : (s t : S) (input left written now later : Option (List ℕ)) (window : Held) (out : List ℕ) (n : ℕ) → Along step count s t input left written now window → length window.bytes ≡ 0 → (window.rest ≡ More → most_of_unit ≤ length window.bytes)
+      → (window.rest ≡ Over → ⊥) → last t ≡ Ok out → Appends now later (take n out) → Pumped step last s input left written later (Err WriteFault)
+  at_last_write s t input left written now later window out n a none ready over e w =
+      let is_end = ended_cases window.rest (not_more window ready none) over in
+      write_failed s t input left written now later window out n a (λ all h.
+      ([], ap (λ (o : Outcome). o.output) (at_last s t all a.put window.bytes window.rest h (nil_from_length window.bytes none) is_end ∙ ap finished e) ∙ sym (append-nil out))) w
+
+  read_failed : (s t : S) (rest : Rest) (got put bytes x : List ℕ) → rest ≡ More → Went step (is_ended rest) s got put t bytes → length bytes + length x ≤ window_room → IsTimely step last s (got ++ x) put
+  read_failed s t More got put bytes x e w room = record {
+    sure = ((outcome step last false t (bytes ++ x)).output, ap (λ (o : Outcome). o.output) (whole step last count laws false (grow step last count laws false x w)));
+    prompt = λ front late is far. early step last count laws front late (grow step last count laws true x w) is
+        (omega (arith, ap length is, length-append got x, length-append front late, length-append bytes x));
+  }
+  read_failed s t Ended got put bytes x e w room = absurd cc
+  read_failed s t Over got put bytes x e w room = absurd cc
+
+  -- a read failed
+  pub at_read : (s t : S) (input left next written now : Option (List ℕ)) (window : Held) → Along step count s t input left written now window → Fails window left next → Pumped step last s input next written now (Err ReadFault)
+  at_read s t input left next written now window a f =
+      record {
+        taken = a.got ++ f.got;
+        put = a.put;
+        reads = gave_open window.rest window.taken input left next a.got f.got f.more a.gave f.gave;
+        writes = a.wrote;
+        says = read_failed s t window.rest a.got a.put window.bytes f.got f.more a.went f.room;
+      }
+    where
+      gave_open : (rest : Rest) (n : ℕ) (a b c : Option (List ℕ)) (xs ys : List ℕ) → rest ≡ More → Gave rest n a b xs → Consumes b c ys → Consumes a c (xs ++ ys)
+      gave_open More n a b c xs ys e g h = Consumes-trans a b c xs ys g h
+      gave_open Ended n a b c xs ys e g h = absurd cc
+      gave_open Over n a b c xs ys e g h = absurd cc
+
+  pub at_failed_read : (s t : S) (input left next written now : Option (List ℕ)) (window : Held) (stop : Stop) → Along step count s t input left written now window → (stop ≡ ReadFault) × Fails window left next → Pumped step last s input next written now (Err stop)
+  at_failed_read s t input left next written now window stop a f = subst (λ (x : Stop). Pumped step last s input next written now (Err x)) (sym f.0) (at_read s t input left next written now window a f.1)
+
+  pub at_failed_write : (s t u : S) (input left written now later : Option (List ℕ)) (window : Held) (used : ℕ) (out : List ℕ) (stop : Stop) → Along step count s t input left written now window → 0 < length window.bytes
+      → step t (is_ended window.rest) window.bytes ≡ Takes used out u → (stop ≡ WriteFault) × ((n : ℕ) × Appends now later (take n out)) → Pumped step last s input left written later (Err stop)
+  at_failed_write s t u input left written now later window used out stop a some e f =
+      subst (λ (x : Stop). Pumped step last s input left written later (Err x)) (sym f.0) (at_write s t u input left written now later window used out f.1.0 a some e f.1.1)
+
+  -- the last bytes are written, or that fails
+  pub at_last_put : (s t : S) (input left written now later : Option (List ℕ)) (window : Held) (out : List ℕ) (result : Result Unit Stop) → Along step count s t input left written now window → length window.bytes ≡ 0 → (window.rest ≡ More → most_of_unit ≤ length window.bytes)
+      → (window.rest ≡ Over → ⊥) × (last t ≡ Ok out) → OnOk result (Appends now later out) → IfErr result (λ stop. (stop ≡ WriteFault) × ((n : ℕ) × Appends now later (take n out))) → Pumped step last s input left written later result
+  at_last_put s t input left written now later window out (Ok x) a none ready e w f = at_end s t input left written now later window out a none ready e.0 e.1 w
+  at_last_put s t input left written now later window out (Err stop) a none ready e w f =
+      subst (λ (x : Stop). Pumped step last s input left written later (Err x)) (sym f.0) (at_last_write s t input left written now later window out f.1.0 a none ready e.0 e.1 f.1.1)

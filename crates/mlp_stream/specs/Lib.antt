@@ -1,0 +1,5 @@
+pub mod Sizes
+pub mod Moves
+pub mod Streams
+pub mod Held
+pub mod Pumped
