@@ -35,18 +35,20 @@ fn fields_of_a_restart(rt: HostRuntime) {
     assert_eq!(rt; r.take(14), Ok(0x31EA));
     assert_eq!(rt; r.take(16), Ok(3600));
     assert_eq!(rt; r.place(), 32);
+    assert!(rt; r.left() == 160);
     r.skip(95);
     assert_eq!(rt; r.restart_check_since(2), 0xCC);
     assert_eq!(rt; r.take(8), Ok(0xCC));
     assert_eq!(rt; r.align16(), Ok(0x8A));
     assert_eq!(rt; r.bytes_between(0, 144).len(), 18);
     assert_eq!(rt; r.take_signed(4), Ok(0));
+    assert!(rt; r.left() == 44);
     r.skip(28);
     assert_eq!(rt; r.take_signed(5), Ok(7));
-    assert_eq!(rt; r.left(), 11);
     assert_eq!(rt; r.peek(16), 0xC5 << 5);
     assert_eq!(rt; r.take(12), Err(Short));
     assert_eq!(rt; r.place(), 181);
+    assert!(rt; r.left() == 11);
     r.skip(3);
     assert_eq!(rt; r.take_signed(8), Ok(-59));
     assert_eq!(rt; r.align16(), Ok(0));
@@ -68,6 +70,7 @@ fn fields_are_written(rt: HostRuntime) {
         assert_eq!(rt; w.put(u32::from(*byte), 8), Ok(()));
     }
     assert_eq!(rt; w.put(1, 7), Ok(()));
+    assert!(rt; w.place() == 127);
     assert_eq!(rt; w.restart_check_since(2), 0xCC);
     for _ in 0..2043 {
         assert_eq!(rt; w.put(0, 32), Ok(()));
