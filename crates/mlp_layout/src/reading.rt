@@ -1,8 +1,10 @@
 //! Reading the simplest values.
-ghost use Rattle.std.specs.Prelude.{◌≡◌, ◌≤◌, ◌<◌, ◌^◌, IfOk};
+ghost use Rattle.std.specs.Prelude.{◌≡◌, ◌≤◌, ◌<◌, ◌^◌, ◌-◌, ℤ, pos, IfOk};
+ghost use lib.IntN.{neg_ℤ};
+ghost use lib.Signed.{◌<ℤ◌, ◌≤ℤ◌};
 ghost use Rattle.mlp_layout.specs.Reading.{Gives};
 ghost use Rattle.mlp_layout.specs.Layout.{number_of};
-ghost use Rattle.mlp_layout.specs.Combined.{flag};
+ghost use Rattle.mlp_layout.specs.Combined.{flag, signed, signed_of};
 
 use mlp_bits::BitReader;
 use mlp_syntax::{Broken, Field};
@@ -64,4 +66,43 @@ pub fn wide(r: &mut BitReader) -> Result<u64, Broken>
         return Err(broken(Field::SegmentShort, place));
     };
     Ok((u64::from(high) << 32) + u64::from(low))
+}
+
+/// What so many bits that spell a number stand for in two's complement.
+fn signed_value(value: u32, width: u32) -> i32
+    requires low { 1 ≤ width }
+    requires high { width ≤ 32 }
+    requires fits { value < 2 ^ width }
+    ensures value { result ≡ signed width value }
+    ensures least { neg_ℤ (pos (2 ^ (width - 1))) ≤ℤ result }
+    ensures most { result <ℤ pos (2 ^ (width - 1)) }
+{
+    if value < 1 << (width - 1) {
+        value as i32
+    } else {
+        (i64::from(value) - (1i64 << width)) as i32
+    }
+}
+
+/// A number in two's complement.
+#[tactic(auto, unfolding(crate::specs::Layout::seen, crate::specs::Combined::signed_of))]
+pub fn signed(width: u32, r: &mut BitReader) -> Result<i32, Broken>
+    requires low { 1 ≤ width }
+    requires high { width ≤ 32 }
+    ensures read { Gives (λ n. n) r.old r.new result ((signed_of width).read r.old.all r.old.place) }
+    ensures least { IfOk result (λ n. neg_ℤ (pos (2 ^ (width - 1))) ≤ℤ n) }
+    ensures most { IfOk result (λ n. n <ℤ pos (2 ^ (width - 1))) }
+{
+    let n = number(width, r)?;
+    Ok(signed_value(n, width))
+}
+
+/// A number in two's complement, of at most 16 bits.
+pub fn signed_word(width: u32, r: &mut BitReader) -> Result<i16, Broken>
+    requires low { 1 ≤ width }
+    requires high { width ≤ 16 }
+    ensures { Gives (λ n. n) r.old r.new result ((signed_of width).read r.old.all r.old.place) }
+{
+    let n = signed(width, r)?;
+    Ok(n as i16)
 }
