@@ -1,0 +1,10 @@
+pub mod Loads
+pub mod Schedules
+pub mod Next
+pub mod Sheds
+pub mod Paces
+pub mod Begins
+pub mod Keeps
+pub mod Places
+pub mod FifoLemmas
+pub mod LawLemmas

@@ -1,0 +1,6 @@
+pub mod Pace
+pub mod Schedule
+pub mod Load
+pub mod LeftFifo
+pub mod Arrivals
+pub mod Next

@@ -1,0 +1,14 @@
+//! When access units arrive: the earliest schedule of a player's buffer, and the check of a stream's timings.
+#![tactic(auto)]
+
+mod arrivals;
+mod fifo;
+mod laws;
+mod pace;
+
+pub use fifo::Fifo;
+pub use laws::{law_duration, law_earliest, law_rates, law_single_rates};
+pub use pace::{Pace, peak};
+
+#[cfg(test)]
+mod tests;

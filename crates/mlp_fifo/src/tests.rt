@@ -1,0 +1,44 @@
+ghost use Rattle.std.specs.Prelude.{◌+◌, ◌^◌, ◌<◌, ◌≤◌};
+
+use super::*;
+use mlp_syntax::{Kind, Memory, NoRoom};
+
+/// Places units of one length, and answers the last one's time.
+fn place_all(fifo: &mut Fifo, units: u64, bytes: u32) -> Result<i64, NoRoom>
+    requires bytes { bytes ≤ 8190 }
+    requires few { fifo.old.count + units < 2 ^ 40 }
+    ensures { fifo.new.count ≤ fifo.old.count + units }
+{
+    let mut time = 0;
+    for _unit in 0..units {
+        time = fifo.place(bytes)?;
+    }
+    Ok(time)
+}
+
+#[test]
+fn a_unit_takes_its_bits_at_the_peak_rate(rt: HostRuntime) {
+    assert_eq!(rt; Pace::of(Kind::Fba, 48000).duration(1000), 22);
+    assert_eq!(rt; Pace::of(Kind::Fba, 96000).duration(4000), 171);
+}
+
+#[test]
+fn long_units_wait_for_room(rt: HostRuntime) -> Result<(), Memory> {
+    let mut fifo = Fifo::open(rt.alloc(), Kind::Fba, 96000)?;
+    let times = [
+        place_all(&mut fifo, 30, 4000),
+        place_all(&mut fifo, 1, 4000),
+        place_all(&mut fifo, 24, 4000),
+    ];
+    assert_eq!(rt; times, [Ok(4959), Ok(7200), Ok(11304)]);
+    assert_eq!(rt;
+        fifo.place(4000),
+        Err(NoRoom {
+            unit: 55,
+            bytes: 4000
+        })
+    );
+    fifo.reset(Kind::Fba, 48000);
+    assert_eq!(rt; place_all(&mut fifo, 1640, 1000), Ok(65560));
+    Ok(())
+}
