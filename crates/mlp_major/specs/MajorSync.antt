@@ -1,5 +1,5 @@
 -- The major sync.
-use Rattle.std.specs.Prelude.{ℕ, ◌+◌, ◌*◌, ◌/◌, ◌%◌, ◌^◌, ◌==◌, nat_le, nat_lt, ◌&&◌, ◌||◌, not, Bool, true, false, List, [], ◌∷◌, ◌++◌, Option, Some, None, if◌then◌else◌}
+use Rattle.std.specs.Prelude.{ℕ, ◌+◌, ◌*◌, ◌/◌, ◌%◌, ◌^◌, ◌<◌, ◌≤◌, ◌==◌, IsTrue, nat_le, nat_lt, ◌&&◌, ◌||◌, not, Bool, true, false, List, [], ◌∷◌, ◌++◌, Option, Some, None, if◌then◌else◌}
 use Rattle.mlp_syntax.specs.declared.major.Kind.{Kind}
 use Rattle.mlp_syntax.specs.declared.major.Kind.TheVariants as kind
 use Rattle.mlp_syntax.specs.declared.major.FormatFbb.{FormatFbb}
@@ -145,6 +145,12 @@ rate_in_hertz m = (if nat_lt (rate_of m.format) 8 then 48000 else 44100) * 2 ^ (
 abbrev pub most_substreams : FormatInfo → ℕ
 most_substreams (format.Fbb f) = 2
 most_substreams (format.Fba f) = 4
+
+-- what later units rely on
+pub record IsUsable (m : MajorSync) : Type 0 where
+  pub rate : IsTrue (is_rate (rate_of m.format))
+  pub some : 0 < m.substreams
+  pub few : m.substreams ≤ most_substreams m.format
 
 -- are rate and number of substreams those of the stream's first sync?
 abbrev pub is_unchanged : Option MajorSync → MajorSync → Bool

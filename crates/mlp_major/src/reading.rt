@@ -1,11 +1,11 @@
 //! Reading a major sync.
 ghost use Rattle.std.specs.Option.{option_copied};
-ghost use Rattle.std.specs.Prelude.{◌≡◌, ◌∷◌, [], ◌≤◌, ◌+◌, ◌*◌, ◌%◌, MatchResult, length, take, Ok, Err};
+ghost use Rattle.std.specs.Prelude.{◌≡◌, ◌∷◌, [], ◌≤◌, ◌+◌, ◌*◌, ◌%◌, MatchResult, IfOk, length, take, Ok, Err};
 ghost use Rattle.mlp_bits.specs.Bits.{bits_of, number as spelled};
 ghost use Rattle.mlp_layout.specs.Reading.{Gives, with_front};
 ghost use Rattle.mlp_layout.specs.Layout.{number_of};
 ghost use Rattle.mlp_layout.specs.Combined.{times};
-ghost use Rattle.mlp_major.specs.MajorSync.{extension, fields, checked_sync, judged_sync, major_sync, is_fba};
+ghost use Rattle.mlp_major.specs.MajorSync.{extension, fields, checked_sync, judged_sync, major_sync, is_fba, IsUsable};
 
 use crate::format::{read_format, read_kind};
 use crate::rules::{check_rules, is_same_kind};
@@ -125,7 +125,8 @@ fn read_judged(
 ) -> Result<MajorSync, Broken>
     requires same { r.old.all ≡ bits_of bytes.now }
     requires whole { r.old.place % 8 ≡ 0 }
-    ensures { Gives (λ m. m) r.old r.new result ((judged_sync (option_copied first.entry)).read r.old.all r.old.place) }
+    ensures read { Gives (λ m. m) r.old r.new result ((judged_sync (option_copied first.entry)).read r.old.all r.old.place) }
+    ensures usable { IfOk result IsUsable }
 {
     let at = r.place();
     let signed = read_checked(bytes, r)?;
@@ -162,7 +163,8 @@ pub fn read_sync(
     requires same { r.old.all ≡ bits_of bytes.now }
     requires whole { r.old.place % 8 ≡ 0 }
     requires room { r.old.place + 32 ≤ 8 * length bytes.now }
-    ensures { Gives (λ m. m) r.old r.new result ((major_sync (option_copied first.entry)).read r.old.all r.old.place) }
+    ensures read { Gives (λ m. m) r.old r.new result ((major_sync (option_copied first.entry)).read r.old.all r.old.place) }
+    ensures usable { IfOk result IsUsable }
 {
     let at = r.place();
     if !is_same_kind(first, first_word(&bytes[at as usize / 8..])) {
@@ -181,8 +183,9 @@ pub fn read_major(
 ) -> Result<(MajorSync, usize), Broken>
     requires low { 4 ≤ length after_head.now }
     requires high { length after_head.now ≤ 8190 }
-    ensures { MatchResult result (λ x. (major_sync (option_copied first.entry)).read (bits_of after_head.now) 0 ≡ Ok (x.0, 8 * x.1))
+    ensures read { MatchResult result (λ x. (major_sync (option_copied first.entry)).read (bits_of after_head.now) 0 ≡ Ok (x.0, 8 * x.1))
         (λ e. (major_sync (option_copied first.entry)).read (bits_of after_head.now) 0 ≡ Err e) }
+    ensures usable { IfOk result (λ x. IsUsable x.0) }
 {
     let mut r = BitReader::new(after_head);
     let major = read_sync(after_head, first, &mut r)?;

@@ -1,8 +1,8 @@
 //! The rules on a major sync.
 ghost use Rattle.std.specs.Option.{option_copied};
-ghost use Rattle.std.specs.Prelude.{Some, None, ◌≡◌, ◌≤◌, MatchResult, IfErr};
+ghost use Rattle.std.specs.Prelude.{Some, None, ◌≡◌, ◌≤◌, IsTrue, MatchResult, OnOk, IfErr};
 ghost use Rattle.mlp_layout.specs.Combined.{first_fault};
-ghost use Rattle.mlp_major.specs.MajorSync.{is_rate, rate_of, most_substreams, is_unchanged, format_rules, rules, is_same_kind};
+ghost use Rattle.mlp_major.specs.MajorSync.{is_rate, rate_of, most_substreams, is_unchanged, format_rules, rules, is_same_kind, IsUsable};
 
 use mlp_layout::broken;
 use mlp_syntax::{Broken, Field, FormatInfo, MajorSync};
@@ -47,6 +47,7 @@ fn is_unchanged(first: Option<&MajorSync>, major: &MajorSync) -> bool
 fn check_format(format: &FormatInfo) -> Result<(), Broken>
     ensures rules { MatchResult result (λ x. first_fault format_rules format.now ≡ None) (λ e. first_fault format_rules format.now ≡ Some (e.field, e.bit)) }
     ensures near { IfErr result (λ e. e.bit ≤ 128) }
+    ensures rate { OnOk result (IsTrue (is_rate (rate_of format.now))) }
 {
     match format {
         FormatInfo::Fba(f) => {
@@ -74,6 +75,7 @@ pub fn check_rules(first: Option<&MajorSync>, major: &MajorSync) -> Result<(), B
     ensures rules { MatchResult result (λ x. first_fault (rules (option_copied first.entry)) major.now ≡ None)
         (λ e. first_fault (rules (option_copied first.entry)) major.now ≡ Some (e.field, e.bit)) }
     ensures near { IfErr result (λ e. e.bit ≤ 128) }
+    ensures usable { OnOk result (IsUsable major.now) }
 {
     check_format(&major.format)?;
     if major.substreams == 0 || major.substreams > most_substreams(&major.format) {

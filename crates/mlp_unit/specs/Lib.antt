@@ -1,0 +1,4 @@
+pub mod Directory
+pub mod AccessUnit
+pub mod Frame
+pub mod Shape

@@ -1,0 +1,29 @@
+-- The outer part of a unit beside its bytes, and the ranges of its segments.
+use Rattle.std.specs.Prelude.{ℕ, zero, suc, ◌+◌, ◌*◌, List, [], ◌∷◌, drop}
+use Rattle.mlp_syntax.specs.declared.unit.DirEntry.{DirEntry}
+use Rattle.mlp_syntax.specs.declared.unit.Outer.{Outer}
+use Rattle.mlp_unit.specs.Directory.{directory_size}
+use Rattle.mlp_unit.specs.AccessUnit.{AccessUnit, major_size}
+
+-- the byte at which the segments begin
+abbrev pub body_place : AccessUnit → ℕ
+body_place u = 4 + major_size u.major + directory_size u.entries
+
+-- a unit of these bytes with this outer part
+abbrev pub unit_with : List ℕ → Outer → AccessUnit
+unit_with bytes o = record { head = o.head; major = o.major; entries = o.entries.items; body = drop o.body bytes }
+
+-- the end of an entry, 0 where it isn't there
+abbrev pub end_at : List DirEntry → ℕ → ℕ
+end_at [] j = 0
+end_at (e ∷ es) zero = e.end
+end_at (e ∷ es) (suc j) = end_at es j
+
+-- the end before an entry, 0 before the first
+abbrev pub end_before : List DirEntry → ℕ → ℕ
+end_before es zero = 0
+end_before es (suc j) = end_at es j
+
+-- the first byte of a segment, and the byte past its last
+abbrev pub range_of : Outer → ℕ → ℕ × ℕ
+range_of o j = (o.body + 2 * end_before o.entries.items j, o.body + 2 * end_at o.entries.items j)
