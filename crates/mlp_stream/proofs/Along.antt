@@ -14,8 +14,9 @@ use Rattle.mlp_stream.specs.Moves.{Move, Waits, Takes, Refuses, IsMove, IsSessio
 use Rattle.mlp_stream.specs.Streams.{Outcome, after, stopped, finished, answer, outcome, IsPrefix}
 use Rattle.mlp_stream.specs.Sizes.{most_of_unit, window_room, limit}
 use Rattle.mlp_stream.specs.Held.{Held, is_ended, Gave, GaveMore, Refills, Fails}
-use Rattle.mlp_stream.specs.Pumped.{IsAnswer, IsTimely, Pumped, IsUnitStop, IsLastStop}
-use Rattle.mlp_stream.proofs.Runs.{Went, here, snoc, grow, whole, early, settled_at, takes, went_nil, outcome-takes, outcome-refuses, outcome-waits, outcome-nil}
+use Rattle.mlp_stream.specs.Gathers.{Gathers, IsWriteStop}
+use Rattle.mlp_stream.specs.Pumped.{Says, IsAnswer, IsTimely, Pumped, IsInputStop, IsUnitStop, IsLastStop}
+use Rattle.mlp_stream.proofs.Runs.{Went, here, snoc, grow, whole, early, settled_at, takes, went_nil, outcome-refuses, outcome-waits, outcome-nil}
 
 -- bytes that an input that tells its bytes lost were in front
 consumed : (a b : Option (List ℕ)) (got all : List ℕ) → Consumes a b got → a ≡ Some all → (ys : List ℕ) × (b ≡ Some ys) × (all ≡ got ++ ys)
@@ -50,23 +51,29 @@ is_some_move Waits h = h refl
 is_some_move (Takes n out t) h = tt
 is_some_move (Refuses r) h = tt
 
--- from the first session s, with what the input and the output held, to now
-pub record Along {S : Type 0} (step : S → Bool → List ℕ → Move S) (count : S → ℕ) (s t : S) (input left written now : Option (List ℕ)) (window : Held) : Type 0 where
+-- from the first session s, with what the input held, to now: the input gave some bytes, and this was made of those before the window's
+pub record Along {S : Type 0} (step : S → Bool → List ℕ → Move S) (count : S → ℕ) (s t : S) (input left : Option (List ℕ)) (made : List ℕ) (window : Held) : Type 0 where
   pub got : List ℕ
-  pub put : List ℕ
-  pub went : Went step (is_ended window.rest) s got put t window.bytes
+  pub went : Went step (is_ended window.rest) s got made t window.bytes
   pub gave : Gave window.rest window.taken input left got
-  pub wrote : Appends written now put
   pub long : length got ≡ window.taken
   pub within : window.taken ≤ limit
   pub counted : count t + length window.bytes ≤ length got
+
+-- the same, with what of it was written, and what is still gathered
+pub record Runs {S : Type 0} (step : S → Bool → List ℕ → Move S) (count : S → ℕ) (s t : S) (input left written now : Option (List ℕ)) (held : List ℕ) (window : Held) : Type 0 where
+  pub made : List ℕ
+  pub put : List ℕ
+  pub along : Along step count s t input left made window
+  pub wrote : Appends written now put
+  pub split : made ≡ put ++ held
 
 abbrev ended_by : Result Unit Stop → List ℕ → Outcome
 ended_by end output = record { end = end; output = output }
 
 module _ {S : Type 0} (step : S → Bool → List ℕ → Move S) (last : S → Result (List ℕ) Refusal) (count : S → ℕ) (laws : IsSession step count) where
-  pub begin : (s : S) (input written : Option (List ℕ)) → count s ≡ 0 → Along step count s s input input written written (record { bytes = []; taken = 0; rest = More })
-  begin s input written none = record { got = []; put = []; went = here; gave = Consumes-nil input; wrote = Appends-nil written; long = refl; within = omega arith; counted = omega arith }
+  begin : (s : S) (input : Option (List ℕ)) → count s ≡ 0 → Along step count s s input input [] (record { bytes = []; taken = 0; rest = More })
+  begin s input none = record { got = []; went = here; gave = Consumes-nil input; long = refl; within = omega arith; counted = omega arith }
 
   gave_same : (old new : Rest) (taken before : ℕ) (a b c : Option (List ℕ)) (xs ys : List ℕ) → Gave old before a b xs → new ≡ old → ys ≡ [] → c ≡ b → taken ≡ before → Gave new taken a c (xs ++ ys)
   gave_same old new taken before a b c xs ys g new_is none c_is taken_is =
@@ -89,32 +96,24 @@ module _ {S : Type 0} (step : S → Bool → List ℕ → Move S) (last : S → 
   went_on Ended new taken b c s t xs ys put zs h w = went_same Ended new s t xs ys put zs h.0 h.1 w
   went_on Over new taken b c s t xs ys put zs h w = went_same Over new s t xs ys put zs h.0 h.1 w
 
-  pub refills : (s t : S) (input left next written now : Option (List ℕ)) (old new : Held) → Along step count s t input left written now old → Refills old new left next → Along step count s t input next written now new
-  refills s t input left next written now old new a r = record {
+  refills : (s t : S) (input left next : Option (List ℕ)) (made : List ℕ) (old new : Held) → Along step count s t input left made old → Refills old new left next → Along step count s t input next made new
+  refills s t input left next made old new a r = record {
     got = a.got ++ r.got;
-    put = a.put;
-    went = subst (λ (x : List ℕ). Went step (is_ended new.rest) s (a.got ++ r.got) a.put t x) (sym r.bytes) (went_on old.rest new.rest new.taken left next s t a.got r.got a.put old.bytes r.gave a.went);
+    went = subst (λ (x : List ℕ). Went step (is_ended new.rest) s (a.got ++ r.got) made t x) (sym r.bytes) (went_on old.rest new.rest new.taken left next s t a.got r.got made old.bytes r.gave a.went);
     gave = gave_on old.rest new.rest new.taken old.taken input left next a.got r.got a.gave r.gave r.taken;
-    wrote = a.wrote;
     long = omega (arith, length-append a.got r.got, a.long, r.taken);
     within = r.within;
     counted = omega (arith, a.counted, ap length r.bytes, length-append old.bytes r.got, length-append a.got r.got);
   }
 
-  -- what the session does with the bytes that the window has
-  step_of : Rest → S → List ℕ → Move S
-  step_of rest s bytes = step s (is_ended rest) bytes
-
-  pub goes_on : (s t u : S) (input left written now later : Option (List ℕ)) (window : Held) (n : ℕ) (out : List ℕ) → Along step count s t input left written now window
-      → step t (is_ended window.rest) window.bytes ≡ Takes n out u → 0 < length window.bytes → Appends now later out → Along step count s u input left written later (record window { bytes = drop n window.bytes })
-  goes_on s t u input left written now later window n out a e some w =
+  goes_on : (s t u : S) (input left : Option (List ℕ)) (made : List ℕ) (window : Held) (n : ℕ) (out : List ℕ) → Along step count s t input left made window
+      → step t (is_ended window.rest) window.bytes ≡ Takes n out u → 0 < length window.bytes → Along step count s u input left (made ++ out) (record window { bytes = drop n window.bytes })
+  goes_on s t u input left made window n out a e some =
       let k = takes step last count laws t window.bytes (is_ended window.rest) n out u e in
       record {
         got = a.got;
-        put = a.put ++ out;
         went = snoc step last count laws (is_ended window.rest) n out a.went e some;
         gave = a.gave;
-        wrote = Appends-trans written now later a.put out a.wrote w;
         long = a.long;
         within = a.within;
         counted = omega (arith, a.counted, length-drop n window.bytes, k.0, k.1, k.2);
@@ -196,10 +195,10 @@ module _ {S : Type 0} (step : S → Bool → List ℕ → Move S) (last : S → 
         cut = λ x. (refl, refl);
       }
 
-  ahead : (s t : S) (input left written now : Option (List ℕ)) (window : Held) (a : Along step count s t input left written now window) (all : List ℕ) → input ≡ Some all → Ahead s t all a.put window.bytes window.rest
-  ahead s t input left written now window a all e =
+  ahead : (s t : S) (input left : Option (List ℕ)) (made : List ℕ) (window : Held) (a : Along step count s t input left made window) (all : List ℕ) → input ≡ Some all → Ahead s t all made window.bytes window.rest
+  ahead s t input left made window a all e =
       let h = told window.rest window.taken input left a.got all a.gave e in
-      subst (λ (l : List ℕ). Ahead s t l a.put window.bytes window.rest) (sym h.whole_is) (ahead_of window.rest s t a.got a.put window.bytes h.left window.taken a.went a.long a.within h.ended h.over)
+      subst (λ (l : List ℕ). Ahead s t l made window.bytes window.rest) (sym h.whole_is) (ahead_of window.rest s t a.got made window.bytes h.left window.taken a.went a.long a.within h.ended h.over)
 
   -- ---- the exits
 
@@ -212,44 +211,37 @@ module _ {S : Type 0} (step : S → Bool → List ℕ → Move S) (last : S → 
   stopped_here s t all put bytes rest h stop e = h.is ∙ ap (after put) e ∙ ap (λ (l : List ℕ). ended_by (Err stop) l) (append-nil put)
 
   -- an exit with an answer
-  answered : (s t : S) (input left written now : Option (List ℕ)) (window : Held) (a : Along step count s t input left written now window) (stop : Stop)
-      → ((all : List ℕ) (h : Ahead s t all a.put window.bytes window.rest) → outcome step last h.ended t (window.bytes ++ h.more) ≡ stopped stop) → IsAnswer step last s input (Err stop) a.put
-  answered s t input left written now window a stop go =
-      if_told input _ (λ all e. let h = ahead s t input left written now window a all e in stopped_here s t all a.put window.bytes window.rest h stop (go all h))
+  answered : (s t : S) (input left : Option (List ℕ)) (made : List ℕ) (window : Held) (a : Along step count s t input left made window) (stop : Stop)
+      → ((all : List ℕ) (h : Ahead s t all made window.bytes window.rest) → outcome step last h.ended t (window.bytes ++ h.more) ≡ stopped stop) → IsAnswer step last s input (Err stop) made
+  answered s t input left made window a stop go =
+      if_told input _ (λ all e. let h = ahead s t input left made window a all e in stopped_here s t all made window.bytes window.rest h stop (go all h))
+
+  -- all that was made is written, and it stops
+  stops : (s t : S) (input left written now : Option (List ℕ)) (made : List ℕ) (window : Held) (a : Along step count s t input left made window) (stop : Stop) → Appends written now made → Says step last s input left (taken_of window.rest window.taken input left a.got a.gave).0 made (Err stop)
+      → Pumped step last s input left written now (Err stop)
+  stops s t input left written now made window a stop wrote says =
+      let k = taken_of window.rest window.taken input left a.got a.gave in
+      record { taken = k.0; put = made; reads = k.1; writes = wrote; says = says }
 
   longer : (bytes more : List ℕ) → 0 < length bytes → 0 < length (bytes ++ more)
   longer bytes more l = omega (arith, length-append bytes more)
 
   -- the next unit is refused, or cut off by the limit
-  pub at_unit : (s t : S) (input left written now : Option (List ℕ)) (window : Held) (stop : Stop) → Along step count s t input left written now window → 0 < length window.bytes
+  at_unit : (s t : S) (input left written now : Option (List ℕ)) (made : List ℕ) (window : Held) (stop : Stop) → Along step count s t input left made window → Appends written now made → 0 < length window.bytes
       → IsUnitStop (step t (is_ended window.rest) window.bytes) window.rest stop → Pumped step last s input left written now (Err stop)
-  at_unit s t input left written now window Usage a some e = absurd e
-  at_unit s t input left written now window (Refused r) a some e =
-      let k = taken_of window.rest window.taken input left a.got a.gave in
-      record {
-        taken = k.0;
-        put = a.put;
-        reads = k.1;
-        writes = a.wrote;
-        says = answered s t input left written now window a (Refused r) (λ all h.
-            outcome-refuses step last count laws h.ended t (window.bytes ++ h.more) r (h.same (subst IsMove (sym e) tt) ∙ e) (longer window.bytes h.more some));
-      }
-  at_unit s t input left written now window TooLong a some e =
-      let k = taken_of window.rest window.taken input left a.got a.gave in
-      record {
-        taken = k.0;
-        put = a.put;
-        reads = k.1;
-        writes = a.wrote;
-        says = answered s t input left written now window a TooLong (λ all h.
-            let waits : step t (is_ended Over) window.bytes ≡ Waits = subst (λ (r : Rest). step t (is_ended r) window.bytes ≡ Waits) e.1 e.0 in
-            let c = h.cut e.1 in
-            let here_too : step t h.ended (window.bytes ++ h.more) ≡ Waits = subst (λ (b : Bool). step t b (window.bytes ++ h.more) ≡ Waits) (sym c.0) (subst (λ (l : List ℕ). step t false l ≡ Waits) (sym (ap (λ (l : List ℕ). window.bytes ++ l) c.1 ∙ append-nil window.bytes)) waits) in
-            outcome-waits step last count laws h.ended t (window.bytes ++ h.more) here_too (longer window.bytes h.more some));
-      }
-  at_unit s t input left written now window ReadFault a some e = absurd e
-  at_unit s t input left written now window WriteFault a some e = absurd e
-  at_unit s t input left written now window OutOfMemory a some e = absurd e
+  at_unit s t input left written now made window Usage a wrote some e = absurd e
+  at_unit s t input left written now made window (Refused r) a wrote some e =
+      stops s t input left written now made window a (Refused r) wrote (answered s t input left made window a (Refused r) (λ all h.
+      outcome-refuses step last count laws h.ended t (window.bytes ++ h.more) r (h.same (subst IsMove (sym e) tt) ∙ e) (longer window.bytes h.more some)))
+  at_unit s t input left written now made window TooLong a wrote some e =
+      stops s t input left written now made window a TooLong wrote (answered s t input left made window a TooLong (λ all h.
+      let waits : step t (is_ended Over) window.bytes ≡ Waits = subst (λ (r : Rest). step t (is_ended r) window.bytes ≡ Waits) e.1 e.0 in
+      let c = h.cut e.1 in
+      let here_too : step t h.ended (window.bytes ++ h.more) ≡ Waits = subst (λ (b : Bool). step t b (window.bytes ++ h.more) ≡ Waits) (sym c.0) (subst (λ (l : List ℕ). step t false l ≡ Waits) (sym (ap (λ (l : List ℕ). window.bytes ++ l) c.1 ∙ append-nil window.bytes)) waits) in
+      outcome-waits step last count laws h.ended t (window.bytes ++ h.more) here_too (longer window.bytes h.more some)))
+  at_unit s t input left written now made window ReadFault a wrote some e = absurd e
+  at_unit s t input left written now made window WriteFault a wrote some e = absurd e
+  at_unit s t input left written now made window OutOfMemory a wrote some e = absurd e
 
   ended_cases : (rest : Rest) → (rest ≡ More → ⊥) → (rest ≡ Over → ⊥) → rest ≡ Ended
   ended_cases More m o = absurd (m refl)
@@ -271,31 +263,17 @@ module _ {S : Type 0} (step : S → Bool → List ℕ → Move S) (last : S → 
   not_more window ready none e = let l = ready e in omega arith
 
   -- the end is refused, or past the limit
-  pub at_last_stop : (s t : S) (input left written now : Option (List ℕ)) (window : Held) (stop : Stop) → Along step count s t input left written now window → length window.bytes ≡ 0 → (window.rest ≡ More → most_of_unit ≤ length window.bytes)
+  at_last_stop : (s t : S) (input left written now : Option (List ℕ)) (made : List ℕ) (window : Held) (stop : Stop) → Along step count s t input left made window → Appends written now made → length window.bytes ≡ 0 → (window.rest ≡ More → most_of_unit ≤ length window.bytes)
       → IsLastStop (last t) window.rest stop → Pumped step last s input left written now (Err stop)
-  at_last_stop s t input left written now window Usage a none ready e = absurd e
-  at_last_stop s t input left written now window (Refused r) a none ready e =
-      let k = taken_of window.rest window.taken input left a.got a.gave in
+  at_last_stop s t input left written now made window Usage a wrote none ready e = absurd e
+  at_last_stop s t input left written now made window (Refused r) a wrote none ready e =
       let is_end = ended_cases window.rest (not_more window ready none) e.1 in
-      record {
-        taken = k.0;
-        put = a.put;
-        reads = k.1;
-        writes = a.wrote;
-        says = answered s t input left written now window a (Refused r) (λ all h. at_last s t all a.put window.bytes window.rest h (nil_from_length window.bytes none) is_end ∙ ap finished e.0);
-      }
-  at_last_stop s t input left written now window TooLong a none ready e =
-      let k = taken_of window.rest window.taken input left a.got a.gave in
-      record {
-        taken = k.0;
-        put = a.put;
-        reads = k.1;
-        writes = a.wrote;
-        says = answered s t input left written now window a TooLong (λ all h. at_limit s t all a.put window.bytes window.rest h (nil_from_length window.bytes none) e);
-      }
-  at_last_stop s t input left written now window ReadFault a none ready e = absurd e
-  at_last_stop s t input left written now window WriteFault a none ready e = absurd e
-  at_last_stop s t input left written now window OutOfMemory a none ready e = absurd e
+      stops s t input left written now made window a (Refused r) wrote (answered s t input left made window a (Refused r) (λ all h. at_last s t all made window.bytes window.rest h (nil_from_length window.bytes none) is_end ∙ ap finished e.0))
+  at_last_stop s t input left written now made window TooLong a wrote none ready e =
+      stops s t input left written now made window a TooLong wrote (answered s t input left made window a TooLong (λ all h. at_limit s t all made window.bytes window.rest h (nil_from_length window.bytes none) e))
+  at_last_stop s t input left written now made window ReadFault a wrote none ready e = absurd e
+  at_last_stop s t input left written now made window WriteFault a wrote none ready e = absurd e
+  at_last_stop s t input left written now made window OutOfMemory a wrote none ready e = absurd e
 
   end_of : (rest : Rest) (n : ℕ) (input left : Option (List ℕ)) (got : List ℕ) → Gave rest n input left got → rest ≡ Ended → IsAtEnd left
   end_of More n input left got g e = absurd cc
@@ -303,52 +281,65 @@ module _ {S : Type 0} (step : S → Bool → List ℕ → Move S) (last : S → 
   end_of Over n input left got g e = absurd cc
 
   -- the end
-  pub at_end : (s t : S) (input left written now later : Option (List ℕ)) (window : Held) (out : List ℕ) → Along step count s t input left written now window → length window.bytes ≡ 0 → (window.rest ≡ More → most_of_unit ≤ length window.bytes)
+  at_end : (s t : S) (input left written now later : Option (List ℕ)) (made : List ℕ) (window : Held) (out : List ℕ) → Along step count s t input left made window → Appends written now made → length window.bytes ≡ 0 → (window.rest ≡ More → most_of_unit ≤ length window.bytes)
       → (window.rest ≡ Over → ⊥) → last t ≡ Ok out → Appends now later out → Pumped step last s input left written later (Ok tt)
-  at_end s t input left written now later window out a none ready over e w =
+  at_end s t input left written now later made window out a wrote none ready over e w =
       let k = taken_of window.rest window.taken input left a.got a.gave in
       let is_end = ended_cases window.rest (not_more window ready none) over in
       record {
         taken = k.0;
-        put = a.put ++ out;
+        put = made ++ out;
         reads = k.1;
-        writes = Appends-trans written now later a.put out a.wrote w;
+        writes = Appends-trans written now later made out wrote w;
         says = (
           end_of window.rest window.taken input left a.got a.gave is_end,
-          if_told input _ (λ all told_is. let h = ahead s t input left written now window a all told_is in
-              h.is ∙ ap (after a.put) (at_last s t all a.put window.bytes window.rest h (nil_from_length window.bytes none) is_end ∙ ap finished e)),
+          if_told input _ (λ all told_is. let h = ahead s t input left made window a all told_is in
+              h.is ∙ ap (after made) (at_last s t all made window.bytes window.rest h (nil_from_length window.bytes none) is_end ∙ ap finished e)),
         );
       }
 
-  -- a write failed behind n bytes, of what was to come out next
-  write_failed : (s t : S) (input left written now later : Option (List ℕ)) (window : Held) (out : List ℕ) (n : ℕ) (a : Along step count s t input left written now window)
-      → ((all : List ℕ) (h : Ahead s t all a.put window.bytes window.rest) → IsPrefix out (outcome step last h.ended t (window.bytes ++ h.more)).output) → Appends now later (take n out) → Pumped step last s input left written later (Err WriteFault)
-  write_failed s t input left written now later window out n a go w =
+  -- a write failed behind some bytes, which with others begin what is made and then comes out next
+  write_failed : (s t : S) (input left written now : Option (List ℕ)) (made put out : List ℕ) (window : Held) (a : Along step count s t input left made window)
+      → ((all : List ℕ) (h : Ahead s t all made window.bytes window.rest) → IsPrefix out (outcome step last h.ended t (window.bytes ++ h.more)).output) → IsPrefix put (made ++ out) → Appends written now put → Pumped step last s input left written now (Err WriteFault)
+  write_failed s t input left written now made put out window a go front wrote =
       let k = taken_of window.rest window.taken input left a.got a.gave in
       record {
         taken = k.0;
-        put = a.put ++ take n out;
+        put = put;
         reads = k.1;
-        writes = Appends-trans written now later a.put (take n out) a.wrote w;
+        writes = wrote;
         says = if_told input _ (λ all told_is.
-            let h = ahead s t input left written now window a all told_is in
+            let h = ahead s t input left made window a all told_is in
             let p = go all h in
-            let rest = drop n out ++ p.0 in
-            (rest, ap (λ (o : Outcome). o.output) h.is ∙ ap (λ (l : List ℕ). a.put ++ l) (p.1 ∙ ap (λ (l : List ℕ). l ++ p.0) (sym (take-append-drop n out)) ∙ append_assoc (take n out) (drop n out) p.0) ∙ sym (append_assoc a.put (take n out) rest)));
+            (front.0 ++ p.0, ap (λ (o : Outcome). o.output) h.is ∙ ap (λ (l : List ℕ). made ++ l) p.1 ∙ sym (append_assoc made out p.0) ∙ ap (λ (l : List ℕ). l ++ p.0) front.1 ∙ append_assoc put front.0 p.0));
       }
 
-  pub at_write : (s t u : S) (input left written now later : Option (List ℕ)) (window : Held) (used : ℕ) (out : List ℕ) (n : ℕ) → Along step count s t input left written now window → 0 < length window.bytes
-      → step t (is_ended window.rest) window.bytes ≡ Takes used out u → Appends now later (take n out) → Pumped step last s input left written later (Err WriteFault)
-  at_write s t u input left written now later window used out n a some e w =
-      write_failed s t input left written now later window out n a (λ all h.
-      ((outcome step last h.ended u (drop used (window.bytes ++ h.more))).output, ap (λ (o : Outcome). o.output) (outcome-takes step last count laws h.ended t (window.bytes ++ h.more) used out u (h.same (subst IsMove (sym e) tt) ∙ e) (longer window.bytes h.more some)))) w
+  -- so many of the next bytes were written
+  cut_at : (xs held : List ℕ) (n : ℕ) → IsPrefix (xs ++ take n held) (xs ++ held)
+  cut_at xs held n = (drop n held, ap (λ (l : List ℕ). xs ++ l) (sym (take-append-drop n held)) ∙ sym (append_assoc xs (take n held) (drop n held)))
 
-  pub at_last_write : (s t : S) (input left written now later : Option (List ℕ)) (window : Held) (out : List ℕ) (n : ℕ) → Along step count s t input left written now window → length window.bytes ≡ 0 → (window.rest ≡ More → most_of_unit ≤ length window.bytes)
-      → (window.rest ≡ Over → ⊥) → last t ≡ Ok out → Appends now later (take n out) → Pumped step last s input left written later (Err WriteFault)
-  at_last_write s t input left written now later window out n a none ready over e w =
+  -- a write of what was gathered failed
+  at_failed_write : (s t : S) (input left written now later : Option (List ℕ)) (made put held : List ℕ) (window : Held) (stop : Stop) → Along step count s t input left made window → Appends written now put → made ≡ put ++ held
+      → IsWriteStop now later held stop → Pumped step last s input left written later (Err stop)
+  at_failed_write s t input left written now later made put held window stop a wrote split f =
+      let front : IsPrefix (put ++ take f.1.0 held) (made ++ []) = subst (IsPrefix (put ++ take f.1.0 held)) (sym (append-nil made ∙ split)) (cut_at put held f.1.0) in
+      subst (λ (x : Stop). Pumped step last s input left written later (Err x)) (sym f.0)
+      (write_failed s t input left written later made (put ++ take f.1.0 held) [] window a (λ all h. ((outcome step last h.ended t (window.bytes ++ h.more)).output, refl)) front (Appends-trans written now later put (take f.1.0 held) wrote f.1.1))
+
+  at_last_write : (s t : S) (input left written now later : Option (List ℕ)) (made : List ℕ) (window : Held) (out : List ℕ) (stop : Stop) → Along step count s t input left made window → Appends written now made → length window.bytes ≡ 0 → (window.rest ≡ More → most_of_unit ≤ length window.bytes)
+      → (window.rest ≡ Over → ⊥) → last t ≡ Ok out → IsWriteStop now later out stop → Pumped step last s input left written later (Err stop)
+  at_last_write s t input left written now later made window out stop a wrote none ready over e f =
       let is_end = ended_cases window.rest (not_more window ready none) over in
-      write_failed s t input left written now later window out n a (λ all h.
-      ([], ap (λ (o : Outcome). o.output) (at_last s t all a.put window.bytes window.rest h (nil_from_length window.bytes none) is_end ∙ ap finished e) ∙ sym (append-nil out))) w
+      subst (λ (x : Stop). Pumped step last s input left written later (Err x)) (sym f.0)
+      (write_failed s t input left written later made (made ++ take f.1.0 out) out window a (λ all h.
+      ([], ap (λ (o : Outcome). o.output) (at_last s t all made window.bytes window.rest h (nil_from_length window.bytes none) is_end ∙ ap finished e) ∙ sym (append-nil out)))
+      (cut_at made out f.1.0) (Appends-trans written now later made (take f.1.0 out) wrote f.1.1))
+
+  -- the last bytes are written, or that fails
+  at_last_put : (s t : S) (input left written now later : Option (List ℕ)) (made : List ℕ) (window : Held) (out : List ℕ) (result : Result Unit Stop) → Along step count s t input left made window → Appends written now made → length window.bytes ≡ 0 → (window.rest ≡ More → most_of_unit ≤ length window.bytes)
+      → (window.rest ≡ Over → ⊥) × (last t ≡ Ok out) → OnOk result (Appends now later out) → IfErr result (λ stop. IsWriteStop now later out stop) → Pumped step last s input left written later result
+  at_last_put s t input left written now later made window out (Ok x) a wrote none ready e w f = at_end s t input left written now later made window out a wrote none ready e.0 e.1 w
+  at_last_put s t input left written now later made window out (Err stop) a wrote none ready e w f = at_last_write s t input left written now later made window out stop a wrote none ready e.0 e.1 f
 
   read_failed : (s t : S) (rest : Rest) (got put bytes x : List ℕ) → rest ≡ More → Went step (is_ended rest) s got put t bytes → length bytes + length x ≤ window_room → IsTimely step last s (got ++ x) put
   read_failed s t More got put bytes x e w room = record {
@@ -359,33 +350,73 @@ module _ {S : Type 0} (step : S → Bool → List ℕ → Move S) (last : S → 
   read_failed s t Ended got put bytes x e w room = absurd cc
   read_failed s t Over got put bytes x e w room = absurd cc
 
+  gave_open : (rest : Rest) (n : ℕ) (a b c : Option (List ℕ)) (xs ys : List ℕ) → rest ≡ More → Gave rest n a b xs → Consumes b c ys → Consumes a c (xs ++ ys)
+  gave_open More n a b c xs ys e g h = Consumes-trans a b c xs ys g h
+  gave_open Ended n a b c xs ys e g h = absurd cc
+  gave_open Over n a b c xs ys e g h = absurd cc
+
   -- a read failed
-  pub at_read : (s t : S) (input left next written now : Option (List ℕ)) (window : Held) → Along step count s t input left written now window → Fails window left next → Pumped step last s input next written now (Err ReadFault)
-  at_read s t input left next written now window a f =
+  at_read : (s t : S) (input left next written now : Option (List ℕ)) (made : List ℕ) (window : Held) → Along step count s t input left made window → Appends written now made → Fails window left next → Pumped step last s input next written now (Err ReadFault)
+  at_read s t input left next written now made window a wrote f =
       record {
         taken = a.got ++ f.got;
-        put = a.put;
+        put = made;
         reads = gave_open window.rest window.taken input left next a.got f.got f.more a.gave f.gave;
-        writes = a.wrote;
-        says = read_failed s t window.rest a.got a.put window.bytes f.got f.more a.went f.room;
+        writes = wrote;
+        says = read_failed s t window.rest a.got made window.bytes f.got f.more a.went f.room;
       }
-    where
-      gave_open : (rest : Rest) (n : ℕ) (a b c : Option (List ℕ)) (xs ys : List ℕ) → rest ≡ More → Gave rest n a b xs → Consumes b c ys → Consumes a c (xs ++ ys)
-      gave_open More n a b c xs ys e g h = Consumes-trans a b c xs ys g h
-      gave_open Ended n a b c xs ys e g h = absurd cc
-      gave_open Over n a b c xs ys e g h = absurd cc
 
-  pub at_failed_read : (s t : S) (input left next written now : Option (List ℕ)) (window : Held) (stop : Stop) → Along step count s t input left written now window → (stop ≡ ReadFault) × Fails window left next → Pumped step last s input next written now (Err stop)
-  at_failed_read s t input left next written now window stop a f = subst (λ (x : Stop). Pumped step last s input next written now (Err x)) (sym f.0) (at_read s t input left next written now window a f.1)
+  -- ---- with what is gathered
 
-  pub at_failed_write : (s t u : S) (input left written now later : Option (List ℕ)) (window : Held) (used : ℕ) (out : List ℕ) (stop : Stop) → Along step count s t input left written now window → 0 < length window.bytes
-      → step t (is_ended window.rest) window.bytes ≡ Takes used out u → (stop ≡ WriteFault) × ((n : ℕ) × Appends now later (take n out)) → Pumped step last s input left written later (Err stop)
-  at_failed_write s t u input left written now later window used out stop a some e f =
-      subst (λ (x : Stop). Pumped step last s input left written later (Err x)) (sym f.0) (at_write s t u input left written now later window used out f.1.0 a some e f.1.1)
+  pub run_begins : (s : S) (input written : Option (List ℕ)) → count s ≡ 0 → Runs step count s s input input written written [] (record { bytes = []; taken = 0; rest = More })
+  run_begins s input written none = record { made = []; put = []; along = begin s input none; wrote = Appends-nil written; split = refl }
 
-  -- the last bytes are written, or that fails
-  pub at_last_put : (s t : S) (input left written now later : Option (List ℕ)) (window : Held) (out : List ℕ) (result : Result Unit Stop) → Along step count s t input left written now window → length window.bytes ≡ 0 → (window.rest ≡ More → most_of_unit ≤ length window.bytes)
-      → (window.rest ≡ Over → ⊥) × (last t ≡ Ok out) → OnOk result (Appends now later out) → IfErr result (λ stop. (stop ≡ WriteFault) × ((n : ℕ) × Appends now later (take n out))) → Pumped step last s input left written later result
-  at_last_put s t input left written now later window out (Ok x) a none ready e w f = at_end s t input left written now later window out a none ready e.0 e.1 w
-  at_last_put s t input left written now later window out (Err stop) a none ready e w f =
-      subst (λ (x : Stop). Pumped step last s input left written later (Err x)) (sym f.0) (at_last_write s t input left written now later window out f.1.0 a none ready e.0 e.1 f.1.1)
+  gathered_on : (made put held out more new : List ℕ) → made ≡ put ++ held → held ++ out ≡ more ++ new → made ++ out ≡ (put ++ more) ++ new
+  gathered_on made put held out more new e f = ap (λ (l : List ℕ). l ++ out) e ∙ append_assoc put held out ∙ ap (λ (l : List ℕ). put ++ l) f ∙ sym (append_assoc put more new)
+
+  pub run_fills : (s t : S) (input left next written now later : Option (List ℕ)) (held new_held : List ℕ) (old new : Held) → Runs step count s t input left written now held old → Refills old new left next → Gathers now later held [] new_held
+      → Runs step count s t input next written later new_held new
+  run_fills s t input left next written now later held new_held old new r f g = record {
+    made = r.made;
+    put = r.put ++ g.put;
+    along = refills s t input left next r.made old new r.along f;
+    wrote = Appends-trans written now later r.put g.put r.wrote g.wrote;
+    split = sym (append-nil r.made) ∙ gathered_on r.made r.put held [] g.put new_held r.split g.same;
+  }
+
+  pub run_goes_on : (s t u : S) (input left written now later : Option (List ℕ)) (held new_held : List ℕ) (window : Held) (n : ℕ) (out : List ℕ) → Runs step count s t input left written now held window
+      → step t (is_ended window.rest) window.bytes ≡ Takes n out u → 0 < length window.bytes → Gathers now later held out new_held → Runs step count s u input left written later new_held (record window { bytes = drop n window.bytes })
+  run_goes_on s t u input left written now later held new_held window n out r e some g = record {
+    made = r.made ++ out;
+    put = r.put ++ g.put;
+    along = goes_on s t u input left r.made window n out r.along e some;
+    wrote = Appends-trans written now later r.put g.put r.wrote g.wrote;
+    split = gathered_on r.made r.put held out g.put new_held r.split g.same;
+  }
+
+  all_written : (s t : S) (input left written now later : Option (List ℕ)) (held : List ℕ) (window : Held) (r : Runs step count s t input left written now held window) → Appends now later held → Appends written later r.made
+  all_written s t input left written now later held window r w = subst (Appends written later) (sym r.split) (Appends-trans written now later r.put held r.wrote w)
+
+  pub run_flush_fails : (s t : S) (input left written now later : Option (List ℕ)) (held : List ℕ) (window : Held) (stop : Stop) → Runs step count s t input left written now held window → IsWriteStop now later held stop → Pumped step last s input left written later (Err stop)
+  run_flush_fails s t input left written now later held window stop r f = at_failed_write s t input left written now later r.made r.put held window stop r.along r.wrote r.split f
+
+  pub run_input_stops : (s t : S) (input left next written now later : Option (List ℕ)) (held : List ℕ) (window : Held) (stop : Stop) → Runs step count s t input left written now held window → IsInputStop window left next now later held stop
+      → Pumped step last s input next written later (Err stop)
+  run_input_stops s t input left next written now later held window Usage r f = absurd f
+  run_input_stops s t input left next written now later held window (Refused x) r f = absurd f
+  run_input_stops s t input left next written now later held window ReadFault r f = at_read s t input left next written later r.made window r.along (all_written s t input left written now later held window r f.1) f.0
+  run_input_stops s t input left next written now later held window WriteFault r f = subst (λ (o : Option (List ℕ)). Pumped step last s input o written later (Err WriteFault)) (sym f.0) (run_flush_fails s t input left written now later held window WriteFault r f.1)
+  run_input_stops s t input left next written now later held window OutOfMemory r f = absurd f
+  run_input_stops s t input left next written now later held window TooLong r f = absurd f
+
+  pub run_unit_stops : (s t : S) (input left written now later : Option (List ℕ)) (held : List ℕ) (window : Held) (stop : Stop) → Runs step count s t input left written now held window → Appends now later held → 0 < length window.bytes
+      → IsUnitStop (step t (is_ended window.rest) window.bytes) window.rest stop → Pumped step last s input left written later (Err stop)
+  run_unit_stops s t input left written now later held window stop r w some e = at_unit s t input left written later r.made window stop r.along (all_written s t input left written now later held window r w) some e
+
+  pub run_last_stops : (s t : S) (input left written now later : Option (List ℕ)) (held : List ℕ) (window : Held) (stop : Stop) → Runs step count s t input left written now held window → Appends now later held → length window.bytes ≡ 0
+      → (window.rest ≡ More → most_of_unit ≤ length window.bytes) → IsLastStop (last t) window.rest stop → Pumped step last s input left written later (Err stop)
+  run_last_stops s t input left written now later held window stop r w none ready e = at_last_stop s t input left written later r.made window stop r.along (all_written s t input left written now later held window r w) none ready e
+
+  pub run_ends : (s t : S) (input left written now mid later : Option (List ℕ)) (held : List ℕ) (window : Held) (out : List ℕ) (result : Result Unit Stop) → Runs step count s t input left written now held window → Appends now mid held → length window.bytes ≡ 0
+      → (window.rest ≡ More → most_of_unit ≤ length window.bytes) → (window.rest ≡ Over → ⊥) × (last t ≡ Ok out) → OnOk result (Appends mid later out) → IfErr result (λ stop. IsWriteStop mid later out stop) → Pumped step last s input left written later result
+  run_ends s t input left written now mid later held window out result r w none ready e ok err = at_last_put s t input left written mid later r.made window out result r.along (all_written s t input left written now mid held window r w) none ready e ok err

@@ -9,6 +9,8 @@ use Rattle.mlp_stream.specs.declared.window.Rest.{Rest}
 use Rattle.mlp_stream.specs.declared.window.Rest.TheVariants.{Over}
 use Rattle.mlp_stream.specs.Moves.{Move, Waits, Refuses}
 use Rattle.mlp_stream.specs.Sizes.{window_room, limit}
+use Rattle.mlp_stream.specs.Held.{Held, Fails}
+use Rattle.mlp_stream.specs.Gathers.{IsWriteStop}
 use Rattle.mlp_stream.specs.Streams.{IsPrefix, answer, soon}
 
 abbrev pub is_read_fault : Result Unit Stop → Bool
@@ -33,6 +35,15 @@ is_write_fault (Err OutOfMemory) = false
 pub record IsCause (told : Bool) (before now : ℕ) : Type 0 where
   pub rose : told ≡ true → Rose before now
   pub kept : told ≡ false → now ≡ before
+
+-- the input failed, once what was gathered was written, or that failed
+abbrev pub IsInputStop : Held → Option (List ℕ) → Option (List ℕ) → Option (List ℕ) → Option (List ℕ) → List ℕ → Stop → Type 0
+IsInputStop window input left written now gathered Usage = ⊥
+IsInputStop window input left written now gathered (Refused r) = ⊥
+IsInputStop window input left written now gathered ReadFault = Fails window input left × Appends written now gathered
+IsInputStop window input left written now gathered WriteFault = (left ≡ input) × IsWriteStop written now gathered WriteFault
+IsInputStop window input left written now gathered OutOfMemory = ⊥
+IsInputStop window input left written now gathered TooLong = ⊥
 
 -- the next unit is refused, or past the limit it isn't all there
 abbrev pub IsUnitStop : {S : Type 0} → Move S → Rest → Stop → Type 0

@@ -1,6 +1,7 @@
 //! The one loop of all commands.
 #![tactic(auto)]
 
+mod gather;
 mod refusal;
 mod session;
 mod stop;

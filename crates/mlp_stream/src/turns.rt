@@ -1,16 +1,18 @@
 //! The loop.
-ghost use Rattle.std.specs.Prelude.{◌≡◌, ℕ, ◌+◌, ◌<◌, ◌≤◌, ◌^◌, ◌≢◌, false, IsTrue, IsFalse, length, take, Ok, Err, IfOk, IfErr, OnOk, OnErr};
+ghost use Rattle.std.specs.Prelude.{◌≡◌, ℕ, ◌+◌, ◌<◌, ◌≤◌, ◌^◌, ◌≢◌, [], false, IsTrue, IsFalse, length, take, Ok, Err, IfOk, IfErr, OnOk, OnErr};
 ghost use Rattle.std.specs.Io.KnownBytes.{Appends};
 ghost use Rattle.mlp_io.specs.Causes.{HasCause};
 ghost use Rattle.mlp_stream.specs.Moves.{Move, said};
 ghost use Rattle.mlp_stream.specs.Sizes.{most_of_unit, limit};
-ghost use Rattle.mlp_stream.specs.Held.{is_ended};
-ghost use Rattle.mlp_stream.specs.Pumped.{Pumped, IsCause, IsUnitStop, IsLastStop, is_read_fault, is_write_fault};
+ghost use Rattle.mlp_stream.specs.Held.{is_ended, Refills};
+ghost use Rattle.mlp_stream.specs.Gathers.{Gathers};
+ghost use Rattle.mlp_stream.specs.Pumped.{Pumped, IsCause, IsInputStop, IsUnitStop, IsLastStop, is_read_fault, is_write_fault};
 
+use crate::gather::{Gathered, flush, gather, put};
 use crate::session::Session;
 use crate::stop::Stop;
 use crate::window::{Rest, Window};
-use mlp_io::{Sink, Source, put_all};
+use mlp_io::{Sink, Source};
 use mlp_syntax::UnitBytes;
 
 /// Whether the limit cuts the next unit off.
@@ -57,19 +59,33 @@ fn last_word<N: Session>(session: &mut N, rest: Rest, out: &mut UnitBytes) -> Re
     }
 }
 
-/// Writes all of the bytes.
-fn put<K: Sink>(output: &mut K, out: &UnitBytes) -> Result<(), Stop>
-    ensures ok { OnOk result (Appends (K.written output.old) (K.written output.new) out.now.items) }
-    ensures err { IfErr result (λ stop. (stop ≡ Stop.WriteFault) × ((n : ℕ) × Appends (K.written output.old) (K.written output.new) (take n out.now.items))) }
-    ensures cause { HasCause (K.faults output.old) (K.faults output.new) result }
+/// Takes more of the input where the window is short of a unit, and writes before that what was gathered.
+fn take_more<S: Source, K: Sink>(
+    window: &mut Window,
+    input: &mut S,
+    gathered: &mut Gathered,
+    output: &mut K,
+) -> Result<(), Stop>
+    ensures filled { OnOk result (Refills window.old window.new (S.left input.old) (S.left input.new)) }
+    ensures flushed { OnOk result (Gathers (K.written output.old) (K.written output.new) gathered.old.items [] gathered.new.items) }
+    ensures err { IfErr result (λ stop. IsInputStop window.old (S.left input.old) (S.left input.new) (K.written output.old) (K.written output.new) gathered.old.items stop) }
+    ensures read { IsCause (is_read_fault result) (S.faults input.old) (S.faults input.new) }
+    ensures write { IsCause (is_write_fault result) (K.faults output.old) (K.faults output.new) }
 {
-    match put_all(output, out.as_slice()) {
-        Ok(()) => Ok(()),
-        Err(_) => Err(Stop::WriteFault),
+    if !window.is_short() {
+        return Ok(());
     }
+    flush(gathered, output)?;
+    window.refill(input)
 }
 
 /// Runs a session over the whole input.
+///
+/// What comes out is gathered, and written before more of the input is taken.
+///
+/// # Errors
+///
+/// The session's refusal, a fault of the input or the output, or that the input is too long.
 pub fn pump<S: Source, K: Sink, N: Session>(
     session: &mut N,
     input: &mut S,
@@ -81,15 +97,24 @@ pub fn pump<S: Source, K: Sink, N: Session>(
     ensures write { IsCause (is_write_fault result) (K.faults output.old) (K.faults output.new) }
 {
     let mut window = Window::new();
+    let mut gathered = Gathered::new();
     let mut out = UnitBytes::new();
     'units: loop {
-        window.refill(input)?;
+        take_more(&mut window, input, &mut gathered, output)?;
         if window.bytes().is_empty() {
+            flush(&mut gathered, output)?;
             last_word(session, window.rest(), &mut out)?;
-            return put(output, &out);
+            return put(output, out.as_slice());
         }
-        let used = next_unit(session, &window, &mut out)?;
-        put(output, &out)?;
-        window.skip(used);
+        match next_unit(session, &window, &mut out) {
+            Ok(used) => {
+                gather(&mut gathered, &out, output)?;
+                window.skip(used);
+            }
+            Err(stop) => {
+                flush(&mut gathered, output)?;
+                return Err(stop);
+            }
+        }
     }
 }

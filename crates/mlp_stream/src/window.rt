@@ -1,7 +1,7 @@
 //! A window on the input.
 ghost use Rattle.std.specs.Prelude.{◌≡◌, ℕ, ◌+◌, ◌-◌, ◌<◌, ◌≤◌, [], List, length, take, drop, OnOk, OnErr, IsErrOf, Err, IfErr, IsTrue, IsFalse};
 ghost use Rattle.mlp_io.specs.Causes.{HasCause};
-ghost use Rattle.mlp_stream.specs.Sizes.{most_of_unit};
+ghost use Rattle.mlp_stream.specs.Sizes.{most_of_unit, limit};
 ghost use Rattle.mlp_stream.specs.Held.{Held, Refills, Fails, RestIs, kept};
 
 use crate::stop::Stop;
@@ -115,22 +115,21 @@ impl Window {
     }
 
     /// Whether more bytes are wanted for a unit, and may come.
-    fn is_short(&self) -> bool
+    pub fn is_short(&self) -> bool
         ensures short { IsTrue result → (self.now.rest ≡ Rest.More) × (length self.now.bytes < most_of_unit) }
         ensures enough { IsFalse result → self.now.rest ≡ Rest.More → most_of_unit ≤ length self.now.bytes }
+        ensures within { self.now.taken ≤ limit }
     {
         matches!(self.rest, Rest::More) && self.end - self.start < UNIT
     }
 
-    /// Takes bytes from the input until there are enough for a unit.
+    /// Takes bytes from the input, as many as there is room for.
     pub fn refill<S: Source>(&mut self, input: &mut S) -> Result<(), Stop>
+        requires { (self.old.rest ≡ Rest.More) × (length self.old.bytes < most_of_unit) }
         ensures ok { OnOk result (Refills self.old self.new (S.left input.old) (S.left input.new)) }
         ensures err { IfErr result (λ stop. (stop ≡ Stop.ReadFault) × Fails self.old (S.left input.old) (S.left input.new)) }
         ensures cause { HasCause (S.faults input.old) (S.faults input.new) result }
     {
-        if !self.is_short() {
-            return Ok(());
-        }
         to_front(&mut self.room, self.start, self.end);
         self.end -= self.start;
         self.start = 0;
