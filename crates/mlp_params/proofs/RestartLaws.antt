@@ -1,6 +1,9 @@
 -- The restart header is a layout.
-use Rattle.std.proofs.Common.{◌≡◌, ℕ, ◌≤◌, Bool, List, length, Ok}
+use Rattle.std.proofs.Common.{◌≡◌, ℕ, ◌≤◌, Bool, List, length, Result, Ok, Err, IfOk}
 use Rattle.mlp_syntax.specs.declared.major.Kind.{Kind}
+use Rattle.mlp_syntax.specs.declared.fault.Broken.{Broken}
+use Rattle.mlp_bits.specs.Cursor.{Cursor}
+use Rattle.mlp_layout.specs.Reading.{Gives}
 use Rattle.mlp_layout.specs.Layout.{Layout, IsLayout}
 use Rattle.mlp_layout.proofs.LayoutLaws.{is_found}
 use Rattle.mlp_layout.proofs.CombinedLaws.{layouts, checked_is, fixed_is}
@@ -18,3 +21,7 @@ restart_is format = checked_is _ _ _ (restart_fields_is format)
 -- what was read fits and meets the rules
 pub allowed : {A : Type 0} {l : Layout A} → IsLayout l → (all : List Bool) (p : ℕ) → p ≤ length all → (x : A) (q : ℕ) → l.read all p ≡ Ok (x, q) → Allowed l x
 allowed is all p le x q h = let f = is_found is all p le (x, q) h in record { fits = f.0.fits; meets = f.0.meets }
+
+pub allowed_of : {A : Type 0} {l : Layout A} → IsLayout l → (old new : Cursor) → (result : Result A Broken) → old.place ≤ length old.all → Gives (λ x. x) old new result (l.read old.all old.place) → IfOk result (λ x. Allowed l x)
+allowed_of is old new (Ok x) le g = allowed is old.all old.place le x new.place g.0
+allowed_of is old new (Err e) le g = tt

@@ -1,4 +1,5 @@
 pub mod Allowed
+pub mod Signed
 pub mod RestartHeader
 pub mod Filters
 pub mod Matrices

@@ -1,0 +1,13 @@
+use Rattle.std.proofs.Common.{◌≡◌, ◌≤◌, true, drop, length}
+use Rattle.mlp_layout.specs.Combined.{group}
+use Rattle.mlp_params.specs.Parameters.{channel, each}
+use Rattle.mlp_params.proofs.EachReading.{Continues}
+use Rattle.mlp_params.proofs.channels.read_channels.Given as goal
+
+abbrev pub invariant-loop-state : goal.invariant-loop-state
+invariant-loop-state l = record {
+  moved : l.fn.r.place ≤ l.r.place;
+  so_far : Continues (λ c. group true (channel l.flags c)) (drop l.state-index l.in_force) l.channels.items l.r.all l.r.place ((each (λ c. group true (channel l.flags c)) l.in_force).read l.fn.r.all l.fn.r.place);
+  same_bits : l.r.all ≡ l.fn.r.all;
+  count : length l.channels.items ≡ l.state-index;
+}
