@@ -1,0 +1,5 @@
+pub mod FormLaws
+pub mod FirstBytes
+pub mod RowReading
+pub mod SegmentReading
+pub mod Closed
