@@ -8,3 +8,5 @@ pub mod Keeps
 pub mod Places
 pub mod FifoLemmas
 pub mod LawLemmas
+pub mod TimedLemmas
+pub mod ShorterLemmas

@@ -4,3 +4,4 @@ pub mod Load
 pub mod LeftFifo
 pub mod Arrivals
 pub mod Next
+pub mod Timed

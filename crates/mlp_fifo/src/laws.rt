@@ -5,6 +5,7 @@ ghost use Rattle.mlp_syntax.specs.declared.major.Kind.TheVariants.{Fbb, Fba};
 ghost use Rattle.mlp_fifo.specs.declared.pace.Pace.{Pace};
 ghost use Rattle.mlp_fifo.specs.Pace.{rates, unit_of, peak_of, pace_of, single_most};
 ghost use Rattle.mlp_fifo.specs.Schedule.{duration_of, IsSchedule, IsEarliest};
+ghost use Rattle.mlp_fifo.specs.Timed.{TimedUnit, HasTimes, IsTimed, IsShorter};
 
 /// The access units and peak data rates of the six rates.
 #[tactic(auto, unfolding(crate::specs::Pace::unit_of, crate::specs::Pace::peak_of))]
@@ -32,4 +33,15 @@ pub fn law_earliest()
 /// At 44100 and 48000 samples a second units that are not too long each begin at their turn, and there is always room.
 pub fn law_single_rates()
     ensures { (kind : Kind) (rate : ℕ) (b : ℕ → ℕ) (n : ℕ) → (rate ≡ 44100) ⊎ (rate ≡ 48000) → ((i : ℕ) → i < n → b i ≤ single_most kind) → IsEarliest (pace_of kind rate) b (λ i. i * 40) n }
+{}
+
+/// At most one list of times has the timings of given units.
+pub fn law_one_timing()
+    ensures { (p : Pace) (u : ℕ → TimedUnit) (t s : ℕ → ℕ) (n : ℕ) → HasTimes p u t n → HasTimes p u s n → (i : ℕ) → i < n → t i ≡ s i }
+{}
+
+/// A schedule stays one, and timings stay those of a stream, where units get shorter.
+pub fn law_shorter()
+    ensures schedule { (p : Pace) (b c t : ℕ → ℕ) (n : ℕ) → 0 < p.peak → ((i : ℕ) → i < n → c i ≤ b i) → IsSchedule p b t n → IsSchedule p c t n }
+    ensures timed { (p : Pace) (u v : ℕ → TimedUnit) (n : ℕ) → 0 < p.peak → ((i : ℕ) → i < n → IsShorter (v i) (u i)) → IsTimed p u n → IsTimed p v n }
 {}

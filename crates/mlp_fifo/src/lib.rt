@@ -2,12 +2,16 @@
 #![tactic(auto)]
 
 mod arrivals;
+mod checker;
 mod fifo;
 mod laws;
 mod pace;
 
+pub use checker::Checker;
 pub use fifo::Fifo;
-pub use laws::{law_duration, law_earliest, law_rates, law_single_rates};
+pub use laws::{
+    law_duration, law_earliest, law_one_timing, law_rates, law_shorter, law_single_rates,
+};
 pub use pace::{Pace, peak};
 
 #[cfg(test)]

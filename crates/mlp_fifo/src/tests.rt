@@ -42,3 +42,16 @@ fn long_units_wait_for_room(rt: HostRuntime) -> Result<(), Memory> {
     assert_eq!(rt; place_all(&mut fifo, 1640, 1000), Ok(65560));
     Ok(())
 }
+
+#[test]
+fn a_unit_before_its_turn_has_no_timing(rt: HostRuntime) -> Result<(), Memory> {
+    let mut checker = Checker::open(rt.alloc(), Kind::Fba, 48000)?;
+    assert!(rt; checker.unit(0, Some(3600), 58));
+    assert!(rt; !checker.unit(39, None, 10));
+    assert!(rt; !checker.unit(80, None, 10));
+    checker.reset(Kind::Fba, 48000);
+    assert!(rt; checker.unit(0, Some(3600), 58));
+    assert!(rt; checker.unit(40, Some(3640), 10));
+    assert!(rt; !checker.unit(80, Some(3640), 10));
+    Ok(())
+}
