@@ -1,2 +1,6 @@
 pub mod UnitLaws
 pub mod HeadReading
+pub mod UnitReading
+pub mod ParityLaws
+pub mod DirectoryRules
+pub mod FrameLaws

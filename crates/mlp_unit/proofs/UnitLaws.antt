@@ -145,7 +145,7 @@ sized_size first h u fits =
     let t = part_takes _ (λ (u : AccessUnit). u.major) (λ major. behind_sync first h major) _ _ (sync_takes (is_some u.major) first) (λ m. behind_takes first h m) in
     t.takes u fits.0.0
 
-parts_take : (first : Option MajorSync) → Takes (parts first) (λ u. 32 + (8 * major_size u.major + (8 * directory_size u.entries + (8 * length u.body + 0))))
+pub parts_take : (first : Option MajorSync) → Takes (parts first) (λ u. 32 + (8 * major_size u.major + (8 * directory_size u.entries + (8 * length u.body + 0))))
 unfolding parts synced
 parts_take first = part_takes _ _ _ _ _ head_takes (λ h. record { takes = sized_size first h })
 

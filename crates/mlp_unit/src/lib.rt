@@ -1,7 +1,14 @@
 //! The outer part of an access unit. Source: Dolby TrueHD (MLP) high-level bitstream description, "access_unit".
 #![tactic(auto)]
 
+mod directory;
+mod head;
 pub mod laws;
+mod outer;
+mod rules;
 mod segment;
 
+pub use directory::read_directory;
+pub use head::frame;
+pub use outer::read_outer;
 pub use segment::segment_range;
