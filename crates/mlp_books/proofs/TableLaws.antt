@@ -1,0 +1,55 @@
+-- What stands in the tables.
+use Rattle.std.proofs.Common.{◌≡◌, ℕ, ◌<◌, ◌≤◌, ◌^◌, Bool, List, length, get_or, map, refl, ap, ◌∙◌, arith}
+use Rattle.std.specs.List.{range_with_len}
+use Rattle.std.proofs.lemmas.List.FromFn.{get_or-map-range_with_len}
+use Rattle.mlp_bits.specs.Bits.{bits, number}
+use Rattle.mlp_bits.proofs.Fields.{number-below}
+use Rattle.mlp_books.specs.Books.{book1, book2, book3, code_of, entry_of, begins, find_symbol, Passes}
+use Rattle.mlp_books.specs.declared.tables.TheConstants.{PATTERNS1, PATTERNS2, PATTERNS3, WIDTHS1, WIDTHS2, WIDTHS3, ENTRIES1, ENTRIES2, ENTRIES3}
+use Rattle.mlp_books.proofs.BookLaws.{book_is}
+
+at_place : (xs : List ℕ) (f : ℕ → ℕ) (n : ℕ) → xs ≡ map f (range_with_len 0 n) → (i : ℕ) → i < n → get_or xs i 0 ≡ f i
+at_place xs f n e i h = ap (λ (t : List ℕ). get_or t i 0) e ∙ get_or-map-range_with_len f 0 n i i 0 h (omega arith)
+
+pub pattern1 : (s : ℕ) → s < 18 → get_or PATTERNS1 s 0 ≡ number (code_of book1 s)
+unfolding book1 bits number
+pattern1 = at_place PATTERNS1 (λ s. number (code_of book1 s)) 18 refl
+
+pub pattern2 : (s : ℕ) → s < 16 → get_or PATTERNS2 s 0 ≡ number (code_of book2 s)
+unfolding book2 bits number
+pattern2 = at_place PATTERNS2 (λ s. number (code_of book2 s)) 16 refl
+
+pub pattern3 : (s : ℕ) → s < 15 → get_or PATTERNS3 s 0 ≡ number (code_of book3 s)
+unfolding book3 bits number
+pattern3 = at_place PATTERNS3 (λ s. number (code_of book3 s)) 15 refl
+
+pub width1 : (s : ℕ) → s < 18 → get_or WIDTHS1 s 0 ≡ length (code_of book1 s)
+unfolding book1 bits
+width1 = at_place WIDTHS1 (λ s. length (code_of book1 s)) 18 refl
+
+pub width2 : (s : ℕ) → s < 16 → get_or WIDTHS2 s 0 ≡ length (code_of book2 s)
+unfolding book2 bits
+width2 = at_place WIDTHS2 (λ s. length (code_of book2 s)) 16 refl
+
+pub width3 : (s : ℕ) → s < 15 → get_or WIDTHS3 s 0 ≡ length (code_of book3 s)
+unfolding book3 bits
+width3 = at_place WIDTHS3 (λ s. length (code_of book3 s)) 15 refl
+
+pub entry1 : (n : ℕ) → n < 512 → get_or ENTRIES1 n 0 ≡ entry_of book1 (bits 9 n)
+unfolding book1 bits find_symbol begins
+entry1 = at_place ENTRIES1 (λ n. entry_of book1 (bits 9 n)) 512 refl
+
+pub entry2 : (n : ℕ) → n < 512 → get_or ENTRIES2 n 0 ≡ entry_of book2 (bits 9 n)
+unfolding book2 bits find_symbol begins
+entry2 = at_place ENTRIES2 (λ n. entry_of book2 (bits 9 n)) 512 refl
+
+pub entry3 : (n : ℕ) → n < 512 → get_or ENTRIES3 n 0 ≡ entry_of book3 (bits 9 n)
+unfolding book3 bits find_symbol begins
+entry3 = at_place ENTRIES3 (λ n. entry_of book3 (bits 9 n)) 512 refl
+
+-- what the writer asks of a code
+pub code_small : (book : List (List Bool)) (s : ℕ) → number (code_of book s) < 2 ^ length (code_of book s)
+code_small book s = number-below (code_of book s)
+
+pub code_short : (book : List (List Bool)) → Passes book → (s : ℕ) → s < length book → length (code_of book s) ≤ 9
+code_short book p = (book_is p).longest

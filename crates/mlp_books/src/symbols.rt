@@ -1,0 +1,123 @@
+//! Reading and writing symbols.
+ghost use Rattle.std.specs.Prelude.{◌≡◌, ◌+◌, ◌<◌, ◌≤◌, ◌++◌, ◌↔◌, length, Ok, IsErr, IfOk, OnOk, OnErr};
+ghost use Rattle.mlp_bits.specs.Cursor.{Cursor};
+ghost use Rattle.mlp_layout.specs.Reading.{Gives};
+ghost use Rattle.mlp_layout.specs.Layout.{made, number_of};
+ghost use Rattle.mlp_layout.specs.Writing.{Writes};
+ghost use Rattle.mlp_books.specs.Books.{code_of, symbol_of, symbol_in, GivesSymbol};
+
+use crate::codebook::Codebook;
+use crate::tables::{Book1, Book2, Book3};
+use mlp_bits::{BitReader, BitWriter, Full};
+use mlp_layout::{broken, put_all, put_number};
+use mlp_syntax::{Broken, Field};
+
+/// Reads a symbol by its code.
+///
+/// Where the next nine bits are no code it is `Code`. Where the bits end before a code does, and fewer than nine are
+/// left, it is `SegmentShort`. Nothing is then taken.
+#[inline]
+pub fn read_symbol<B: Codebook>(r: &mut BitReader) -> Result<u32, Field>
+    ensures read { GivesSymbol r.old r.new result ((symbol_of B.codes).read r.old.all r.old.place) }
+    ensures bound { IfOk result (λ s. s < B.SYMBOLS) }
+{
+    let entry = B::entry(r.peek(9));
+    let width = entry % 16;
+    let left = r.left();
+    if width > left {
+        return Err(Field::SegmentShort);
+    }
+    if width == 0 {
+        return Err(no_code(left));
+    }
+    r.skip(width);
+    Ok(entry / 16)
+}
+
+/// What is wrong where the bits that are left begin with no code.
+fn no_code(left: u32) -> Field
+    ensures short { left < 9 → result ≡ Field.SegmentShort }
+    ensures none { 9 ≤ left → result ≡ Field.Code }
+{
+    if left < 9 {
+        Field::SegmentShort
+    } else {
+        Field::Code
+    }
+}
+
+/// Reads a symbol by its code, with the place of a fault, which is the code's first bit.
+#[inline]
+pub fn symbol<B: Codebook>(r: &mut BitReader) -> Result<u32, Broken>
+    ensures read { Gives (λ s. s) r.old r.new result ((symbol_of B.codes).read r.old.all r.old.place) }
+    ensures bound { IfOk result (λ s. s < B.SYMBOLS) }
+{
+    let place = r.place();
+    match read_symbol::<B>(r) {
+        Ok(symbol) => Ok(symbol),
+        Err(field) => Err(broken(field, place)),
+    }
+}
+
+/// Reads a symbol of the book with this number. Book 0 has the symbol 0 alone, which takes no bits.
+#[tactic(auto, unfolding(mlp_layout::specs::Layout::made, crate::specs::Books::symbol_in))]
+#[inline]
+pub fn symbol_in(book: u8, r: &mut BitReader) -> Result<u8, Broken>
+    requires { book ≤ 3 }
+    ensures read { Gives (λ s. s) r.old r.new result ((symbol_in book).read r.old.all r.old.place) }
+    ensures bound { IfOk result (λ s. s < 18) }
+{
+    let symbol = match book {
+        0 => 0,
+        1 => symbol::<Book1>(r)?,
+        2 => symbol::<Book2>(r)?,
+        _ => symbol::<Book3>(r)?,
+    };
+    Ok(symbol as u8)
+}
+
+/// Writes the code of a symbol. It is full exactly where `put` is.
+#[inline]
+pub fn write_symbol<B: Codebook>(symbol: u32, w: &mut BitWriter) -> Result<(), Full>
+    requires { symbol < B.SYMBOLS }
+    ensures full { IsErr result ↔ (65520 < length w.old + length (code_of B.codes symbol)) }
+    ensures ok { OnOk result (w.new ≡ w.old ++ code_of B.codes symbol) }
+    ensures err { OnErr result (w.new ≡ w.old) }
+{
+    w.put(B::pattern(symbol), B::width(symbol))
+}
+
+/// Writes the code of a symbol, and says what was written as the layouts do.
+#[inline]
+fn put_symbol<B: Codebook>(symbol: u32, w: &mut BitWriter) -> Result<(), Full>
+    requires { symbol < B.SYMBOLS }
+    ensures { Writes w.old w.new result (code_of B.codes symbol) }
+{
+    put_number(B::pattern(symbol), B::width(symbol), w)
+}
+
+/// Writes the code of a symbol of the book with this number.
+#[tactic(auto, unfolding(mlp_layout::specs::Layout::made, crate::specs::Books::symbol_in, crate::specs::Books::symbol_of, crate::specs::Books::book1, crate::specs::Books::book2, crate::specs::Books::book3))]
+#[inline]
+pub fn put_symbol_in(book: u8, symbol: u8, w: &mut BitWriter) -> Result<(), Full>
+    requires book { book ≤ 3 }
+    requires symbol { (symbol_in book).Fits symbol }
+    ensures { Writes w.old w.new result ((symbol_in book).spelling symbol) }
+{
+    let symbol = u32::from(symbol);
+    match book {
+        0 => put_all(&[], w),
+        1 => put_symbol::<Book1>(symbol, w),
+        2 => put_symbol::<Book2>(symbol, w),
+        _ => put_symbol::<Book3>(symbol, w),
+    }
+}
+
+/// How many bits the code of a symbol has.
+#[inline]
+pub fn length<B: Codebook>(symbol: u32) -> u32
+    requires { symbol < B.SYMBOLS }
+    ensures { result ≡ length (code_of B.codes symbol) }
+{
+    B::width(symbol)
+}
