@@ -2,7 +2,9 @@ pub mod CheckReading
 pub mod InForceLaws
 pub mod ParameterLaws
 pub mod RestartLaws
-pub mod SeriesReading
 pub mod SignedLaws
 pub mod EachReading
 pub mod RestartRanges
+pub mod ApplyLaws
+pub mod LawfulStates
+pub mod LawfulSteps

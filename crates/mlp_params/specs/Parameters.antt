@@ -46,6 +46,10 @@ channel flags in_force =
 
 -- ---- a block
 
+-- from 8 frames to those of an access unit
+abbrev pub block_size_of : ℕ → Layout ℕ
+block_size_of unit_frames = ruled (must rule.BlockSize (λ n. nat_le 8 n && nat_le n unit_frames)) (number_of 9)
+
 -- a shift of four bits in two's complement, which isn't negative where its first bit is 0
 abbrev pub output_shift : Layout ℕ
 output_shift = ruled (must rule.OutputShift (λ n. nat_lt n 8)) (number_of 4)
@@ -53,7 +57,7 @@ output_shift = ruled (must rule.OutputShift (λ n. nat_lt n 8)) (number_of 4)
 -- what follows the presence flags, which are these from here on
 unfoldable pub groups : State → Option ℕ → ℕ → Layout Params
 groups s presence flags =
-    part (group (bit flags 7) (ruled (must rule.BlockSize (λ n. nat_le 8 n && nat_le n s.unit_frames)) (number_of 9))) (λ p. p.block_size) (λ block_size.
+    part (group (bit flags 7) (block_size_of s.unit_frames)) (λ p. p.block_size) (λ block_size.
     part (group (bit flags 6) (rows s.format s.restart)) (λ p. p.matrices) (λ matrices.
     part (group (bit flags 5) (listed (s.restart.max_matrix + 1) output_shift)) (λ p. p.shifts) (λ shifts.
     part (group (bit flags 4) (listed (s.restart.max + 1) (number_of 4))) (λ p. p.steps) (λ steps.

@@ -4,14 +4,12 @@
 ghost use Rattle.std.specs.Prelude.{◌≡◌, ◌+◌, ◌≤◌, ◌<◌, IfOk, Option, ℕ, drop, true, unwrap_or};
 ghost use Rattle.arrayvec.specs.ArrayVec.{array_vec_len};
 ghost use Rattle.mlp_bits.specs.Bits.{bit};
-ghost use Rattle.mlp_syntax.specs.declared.fault.Field.TheVariants as rule;
 ghost use Rattle.mlp_layout.specs.Reading.{Gives};
-ghost use Rattle.mlp_layout.specs.Layout.{number_of, ruled};
-ghost use Rattle.mlp_layout.specs.Combined.{group, times, must};
-ghost use Rattle.std.specs.Prelude.{nat_le, ◌&&◌};
+ghost use Rattle.mlp_layout.specs.Layout.{number_of};
+ghost use Rattle.mlp_layout.specs.Combined.{group, times};
 ghost use Rattle.mlp_params.specs.Allowed.{Allowed};
 ghost use Rattle.mlp_params.specs.Matrices.{rows};
-ghost use Rattle.mlp_params.specs.Parameters.{listed, each, output_shift, channel, groups, params};
+ghost use Rattle.mlp_params.specs.Parameters.{listed, each, block_size_of, output_shift, channel, groups, params};
 ghost use Rattle.mlp_params.specs.States.{IsState};
 
 use crate::channels::{has_bit, read_channels};
@@ -37,7 +35,7 @@ fn read_presence(there: bool, r: &mut BitReader) -> Result<Option<u8>, Broken>
 }
 
 fn read_block_size(there: bool, unit_frames: u16, r: &mut BitReader) -> Result<Option<u16>, Broken>
-    ensures { Gives (λ x. x) r.old r.new result ((group there (ruled (must rule.BlockSize (λ n. nat_le 8 n && nat_le n unit_frames)) (number_of 9))).read r.old.all r.old.place) }
+    ensures { Gives (λ x. x) r.old r.new result ((group there (block_size_of unit_frames)).read r.old.all r.old.place) }
 {
     if !there {
         return Ok(None);
