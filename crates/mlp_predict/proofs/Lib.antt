@@ -1,0 +1,5 @@
+pub mod Dots
+pub mod Slides
+pub mod Scaling
+pub mod Blocks
+pub mod Sequences

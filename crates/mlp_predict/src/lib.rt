@@ -1,0 +1,15 @@
+//! Prediction of a channel's samples from its latest outputs and differences, and the inverse.
+//! Source: the MLP substream syntax and decoding process as publicly documented.
+#![tactic(auto)]
+
+mod filters;
+mod history;
+pub mod laws;
+mod predictor;
+mod sample;
+
+pub use history::History;
+pub use predictor::Predictor;
+
+#[cfg(test)]
+mod tests;
