@@ -1,0 +1,4 @@
+pub mod Checks
+pub mod Restarts
+pub mod Blocks
+pub mod Segment

@@ -1,0 +1,6 @@
+//! Substream segments, read and written.
+#![tactic(auto)]
+
+mod known;
+
+pub use known::{Ending, Known, Place};
