@@ -20,7 +20,7 @@ use Rattle.mlp_present.specs.FirstForm.{not_built, or_not_built, outer_part}
 abbrev pub words : List Bool → ℕ
 words all = number (take 12 (drop 4 all))
 
-abbrev first_head : List Bool → UnitHead
+abbrev pub first_head : List Bool → UnitHead
 first_head all = record { check = number (take 4 (drop 0 all)); words = words all; timing = number (take 16 (drop 16 all)) }
 
 -- ---- the head
@@ -33,7 +33,7 @@ fields_read all le =
     let c : leb 32 (length all) ≡ true = le-leb 32 (length all) (omega arith) in
     rw (a, b, c) refl
 
-head_read : (all : List Bool) → 32 ≤ length all → (b : Bool) → leb 2 (words all) ≡ b → head.read all 0 ≡ cond b (Ok (first_head all, 32)) (Err (broken rule.UnitLength 4))
+pub head_read : (all : List Bool) → 32 ≤ length all → (b : Bool) → leb 2 (words all) ≡ b → head.read all 0 ≡ cond b (Ok (first_head all, 32)) (Err (broken rule.UnitLength 4))
 unfolding head ruled whole
 head_read all le true e = rw (fields_read all le, e) refl
 head_read all le false e = rw (fields_read all le, e) refl

@@ -3,3 +3,5 @@ pub mod FirstBytes
 pub mod RowReading
 pub mod SegmentReading
 pub mod Closed
+pub mod Framed
+pub mod NextUnit

@@ -79,3 +79,8 @@ waits held bytes = is_none held.refusal && is_open bytes
 -- is all of a unit there?
 abbrev pub is_whole : List ℕ → Bool
 is_whole bytes = nat_le 4 (length bytes) && (nat_le 2 (words_of bytes) && nat_le (2 * words_of bytes) (length bytes))
+
+-- what a call answers, puts out and leaves
+abbrev pub answered : Result ℕ Refusal → List (List ℤ) → Left → Result Taken Refusal
+answered (Ok n) rows left = Ok (record { size = n; rows = rows; left = left })
+answered (Err refusal) rows left = Err refusal
