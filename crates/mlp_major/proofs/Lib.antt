@@ -1,2 +1,3 @@
 pub mod MajorLaws
 pub mod SyncReading
+pub mod SyncWriting

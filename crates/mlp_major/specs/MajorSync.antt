@@ -178,6 +178,10 @@ abbrev pub is_same_kind : Option MajorSync → ℕ → Bool
 is_same_kind None word = true
 is_same_kind (Some first) word = word == 2 * sync + kind_bit_of (kind_of first.format)
 
+-- a major sync with its signature
+abbrev pub signed : MajorSync → SignedSync
+signed m = record { signature = signature; major = m }
+
 -- the fields and the check over them; where they aren't all there the check fails too
 unfoldable pub checked_sync : Layout SignedSync
 checked_sync = whole rule.MajorCrc (checked 16 (rem modulus16) rule.MajorCrc fields)
@@ -186,7 +190,7 @@ checked_sync = whole rule.MajorCrc (checked 16 (rem modulus16) rule.MajorCrc fie
 unfoldable pub judged_sync : Option MajorSync → Layout MajorSync
 judged_sync first =
     under (rules first)
-    (seen (λ s. s.major) (λ m. Some (record { signature = signature; major = m }))
+    (seen (λ s. s.major) (λ m. Some (signed m))
     (ruled (must_at 64 rule.Signature (λ s. s.signature == signature)) checked_sync))
 
 -- a major sync, its kind being tried before all else; first is the stream's first sync, if this isn't it

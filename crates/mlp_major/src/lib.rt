@@ -6,6 +6,8 @@ pub mod laws;
 mod rate;
 mod reading;
 mod rules;
+mod writing;
 
 pub use rate::{frames_per_unit, sample_rate};
 pub use reading::{read_major, read_sync};
+pub use writing::write_major;

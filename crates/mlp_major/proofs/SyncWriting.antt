@@ -1,0 +1,121 @@
+-- What a major sync is spelled as, piece by piece.
+use Rattle.std.proofs.Common.{◌≡◌, ℕ, zero, suc, ◌+◌, ◌*◌, ◌%◌, ◌<◌, Bool, true, false, List, [], ◌∷◌, ◌++◌, length, Option, refl, sym, ap, ◌∙◌, append_assoc, arith}
+use Rattle.std.proofs.lemmas.List.{append-nil}
+use Rattle.std.specs.List.{flat_map}
+use Rattle.mlp_syntax.specs.declared.major.MajorSync.{MajorSync}
+use Rattle.mlp_bits.specs.Bits.{bits, digit, bits_of}
+use Rattle.mlp_bits.specs.Checks.{modulus16, rem}
+use Rattle.mlp_layout.specs.Layout.{Layout, Rule, number_of, seen, ruled, opening, whole, part, made, item}
+use Rattle.mlp_layout.specs.Combined.{under, flag, fixed, checked, chosen, times}
+use Rattle.mlp_layout.specs.Writing.{field_bits}
+use Rattle.mlp_major.proofs.MajorLaws.{fields_take, major_takes}
+use Rattle.mlp_major.specs.MajorSync.{format_info, kind_of, kind_bit, kind_bit_of, is_long, extension, fields, checked_sync, judged_sync, major_sync, rules, signed, sync, signature}
+
+-- ---- the extension
+
+pub times_text : (n : ℕ) (bytes : List ℕ) → (times n (number_of 8)).Fits bytes → (times n (number_of 8)).spelling bytes ≡ bits_of bytes
+unfolding times made item number_of bits_of
+times_text zero bytes fits = ap bits_of (sym fits)
+times_text (suc n) [] fits = absurd fits
+times_text (suc n) (b ∷ bs) fits = ap (λ (t : List Bool). bits 8 b ++ t) (times_text n bs fits.1)
+
+pub extension_text : (long : Bool) (bytes : List ℕ) → (extension long).Fits bytes → (extension long).spelling bytes ≡ bits_of bytes
+unfolding extension chosen made item number_of bits_of
+extension_text true [] fits = absurd fits
+extension_text true (b ∷ bs) fits = ap (λ (t : List Bool). bits 8 b ++ t) (times_text _ bs fits.1)
+extension_text false bytes fits = ap bits_of (sym fits)
+
+-- ---- what fits
+
+pub record SyncFits (m : MajorSync) : Type 0 where
+  pub format : (format_info (kind_of m.format)).Fits m.format
+  pub flags : m.flags < 65536
+  pub reserved : m.reserved < 65536
+  pub peak : m.peak < 32768
+  pub substreams : m.substreams < 16
+  pub carried : m.carried < 4
+  pub extended : m.extended < 4
+  pub info : m.info < 256
+  pub extension : (extension (is_long (kind_of m.format) m.meaning)).Fits m.extension.items
+
+pub sync_fits : (m : MajorSync) → fields.Fits (signed m) → SyncFits m
+unfolding fields fixed ruled part number_of made
+sync_fits m fits =
+    let f = fits.1.1 in
+    record {
+      format = f.0;
+      flags = f.1.1.0;
+      reserved = f.1.1.1.0;
+      peak = f.1.1.1.1.1.0;
+      substreams = f.1.1.1.1.1.1.0;
+      carried = f.1.1.1.1.1.1.1.0;
+      extended = f.1.1.1.1.1.1.1.1.0;
+      info = f.1.1.1.1.1.1.1.1.1.0;
+      extension = f.1.1.1.1.1.1.1.1.1.1.1.0;
+    }
+
+pub digit_small : (b : Bool) → digit b < 2
+digit_small true = omega arith
+digit_small false = omega arith
+
+-- ---- the pieces
+
+abbrev pub piece_1 : MajorSync → List Bool
+piece_1 m = flat_map field_bits ((sync, 31) ∷ (kind_bit_of (kind_of m.format), 1) ∷ [])
+
+abbrev pub piece_2 : MajorSync → List Bool
+piece_2 m = (format_info (kind_of m.format)).spelling m.format
+
+abbrev pub piece_3 : MajorSync → List Bool
+piece_3 m = flat_map field_bits ((signature, 16) ∷ (m.flags, 16) ∷ (m.reserved, 16) ∷ (digit m.variable, 1) ∷ (m.peak, 15) ∷ (m.substreams, 4) ∷ (m.carried, 2) ∷ (m.extended, 2) ∷ (m.info, 8) ∷ [])
+
+abbrev pub piece_4 : MajorSync → List Bool
+piece_4 m = (number_of 64).spelling m.meaning
+
+abbrev pub piece_5 : MajorSync → List Bool
+piece_5 m = bits_of m.extension.items
+
+pub fields_text : (m : MajorSync) → fields.Fits (signed m) → fields.spelling (signed m) ≡ piece_1 m ++ (piece_2 m ++ (piece_3 m ++ (piece_4 m ++ piece_5 m)))
+unfolding fields fixed ruled part number_of made kind_bit seen flag
+fields_text m fits = rw (extension_text (is_long (kind_of m.format) m.meaning) m.extension.items (sync_fits m fits).extension) (simp (append_assoc, append-nil))
+
+-- ---- the check, and the rules
+
+pub checked_text : (m : MajorSync) → checked_sync.spelling (signed m) ≡ fields.spelling (signed m) ++ bits 16 (rem modulus16 (fields.spelling (signed m)))
+unfolding checked_sync whole checked part fixed ruled number_of made
+checked_text m = simp append-nil
+
+ruled_text : {A : Type 0} (rule : Rule A) (l : Layout A) (x : A) → (ruled rule l).spelling x ≡ l.spelling x
+unfolding ruled
+ruled_text rule l x = refl
+
+ruled_fits : {A : Type 0} (rule : Rule A) (l : Layout A) (x : A) → (ruled rule l).Fits x → l.Fits x
+unfolding ruled
+ruled_fits rule l x fits = fits
+
+-- rules change neither what is spelled nor what fits
+pub under_text : {A : Type 0} (rules : List (Rule A)) (l : Layout A) (x : A) → (under rules l).spelling x ≡ l.spelling x
+unfolding under
+under_text [] l x = refl
+under_text (rule ∷ rules) l x = under_text rules (ruled rule l) x ∙ ruled_text rule l x
+
+pub under_fits : {A : Type 0} (rules : List (Rule A)) (l : Layout A) (x : A) → (under rules l).Fits x → l.Fits x
+unfolding under
+under_fits [] l x fits = fits
+under_fits (rule ∷ rules) l x fits = ruled_fits rule l x (under_fits rules (ruled rule l) x fits)
+
+-- a sync is spelled with its signature and check
+pub sync_text : (first : Option MajorSync) (m : MajorSync) → (major_sync first).spelling m ≡ checked_sync.spelling (signed m)
+unfolding major_sync opening judged_sync seen ruled
+sync_text first m = under_text (rules first) _ m
+
+pub sync_has_fields : (first : Option MajorSync) (m : MajorSync) → (major_sync first).Fits m → fields.Fits (signed m)
+unfolding major_sync opening judged_sync seen ruled checked_sync whole checked part
+sync_has_fields first m fits = (under_fits (rules first) _ m fits).0.0
+
+-- how long it is
+pub sync_length : (first : Option MajorSync) (m : MajorSync) → (major_sync first).Fits m → length ((major_sync first).spelling m) ≡ 8 * (28 + length m.extension.items)
+sync_length first m fits = (major_takes first).takes m fits
+
+pub fields_whole : (m : MajorSync) → fields.Fits (signed m) → length (fields.spelling (signed m)) % 8 ≡ 0
+fields_whole m fits = omega (arith, fields_take.takes (signed m) fits)
