@@ -1,3 +1,4 @@
 pub mod CheckLaws
 pub mod BlockLaws
 pub mod SegmentLaws
+pub mod RestartReading

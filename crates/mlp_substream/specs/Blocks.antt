@@ -1,5 +1,5 @@
 -- The blocks of a segment, each against what is in force behind those before it.
-use Rattle.std.specs.Prelude.{ℕ, ◌+◌, nat_le, ◌&&◌, Bool, true, false, List, [], ◌∷◌, drop, Option, Some, None, is_some, option_map}
+use Rattle.std.specs.Prelude.{◌≡◌, ◌≤◌, ℕ, ◌+◌, nat_le, ◌&&◌, Bool, true, false, List, [], ◌∷◌, drop, Option, Some, None, is_some, option_map}
 use Rattle.mlp_syntax.specs.declared.fault.Field.TheVariants as rule
 use Rattle.mlp_syntax.specs.declared.restart.Restart.{Restart}
 use Rattle.mlp_syntax.specs.declared.params.Params.{Params}
@@ -12,6 +12,7 @@ use Rattle.mlp_params.specs.declared.state.State.{State}
 use Rattle.mlp_params.specs.Parameters.{params}
 use Rattle.mlp_params.specs.InForce.{in_force}
 use Rattle.mlp_params.specs.Applied.{applied}
+use Rattle.mlp_params.specs.States.{IsState}
 use Rattle.mlp_substream.specs.declared.known.Place.{Place}
 use Rattle.mlp_substream.specs.declared.known.Known.{Known}
 use Rattle.mlp_substream.specs.Restarts.{flags, judged_restart}
@@ -91,3 +92,15 @@ module _ (frames : State → ℕ → Layout (List FrameCode)) where
 
 abbrev pub after_block : Place → At → Block → At
 after_block place at b = record { force = after_head place at.force b.head; so_far = at.so_far + b.head.frames; due = false }
+
+-- ---- what can be in force in a segment that stands here
+
+pub record FitsPlace (place : Place) (s : State) : Type 0 where
+  pub lawful : IsState s
+  pub format : s.format ≡ place.format
+  pub unit_frames : s.unit_frames ≡ place.unit_frames
+
+-- a unit has frames for a block, and at most 160
+pub record IsPlace (place : Place) : Type 0 where
+  pub least : 8 ≤ place.unit_frames
+  pub most : place.unit_frames ≤ 160

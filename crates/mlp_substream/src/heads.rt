@@ -1,0 +1,118 @@
+//! Reading the head of a block, and putting in force what it gives. Source: the MLP substream syntax as publicly documented.
+ghost use Rattle.std.specs.Prelude.{◌≡◌, ◌≤◌, IfOk, IfSome, option_map};
+ghost use Rattle.mlp_layout.specs.Reading.{Gives};
+ghost use Rattle.mlp_layout.specs.Combined.{present};
+ghost use Rattle.mlp_params.specs.Allowed.{Allowed};
+ghost use Rattle.mlp_params.specs.RestartHeader.{restart};
+ghost use Rattle.mlp_params.specs.Parameters.{params};
+ghost use Rattle.mlp_params.specs.States.{IsState};
+ghost use Rattle.mlp_substream.specs.Restarts.{judged_restart};
+ghost use Rattle.mlp_substream.specs.Blocks.{restarted, given, after_head, against, block_size_in, head, FitsPlace, IsPlace};
+
+use crate::known::{Known, Place};
+use crate::restarts::{read_flags, read_judged};
+use mlp_bits::BitReader;
+use mlp_layout::broken;
+use mlp_params::{State, apply, read_params};
+use mlp_syntax::{BlockHead, Broken, Field, Kind, Params, Restart};
+
+/// A restart header where the flags say so.
+#[tactic(auto, unfolding(mlp_layout::specs::Layout::seen, mlp_layout::specs::Layout::made, mlp_layout::specs::Combined::chosen, mlp_layout::specs::Combined::present))]
+fn read_restart_if(
+    there: bool,
+    known: &Known,
+    format: Kind,
+    r: &mut BitReader,
+) -> Result<Option<Restart>, Broken>
+    ensures read { Gives (λ x. x) r.old r.new result ((present there (judged_restart known.now format)).read r.old.all r.old.place) }
+    ensures allowed { IfOk result (λ o. IfSome o (λ h. Allowed (restart format) h)) }
+{
+    if !there {
+        return Ok(None);
+    }
+    let header = read_judged(known, format, r)?;
+    Ok(Some(header))
+}
+
+/// Puts in force what a restart gives.
+fn restart_at(place: &Place, header: &Option<Restart>, state: &mut Option<State>)
+    requires place { IsPlace place.now }
+    requires header { IfSome header.now (λ h. Allowed (restart place.now.format) h) }
+    requires state { IfSome state.old (λ s. FitsPlace place.now s) }
+    ensures value { state.new ≡ restarted place.now state.old header.now }
+    ensures state { IfSome state.new (λ s. FitsPlace place.now s) }
+{
+    if let Some(header) = header {
+        *state = Some(State::at_restart(place.format, place.unit_frames, header));
+    }
+}
+
+/// Parameters where the flags say so, against what is in force.
+#[tactic(auto, unfolding(mlp_layout::specs::Layout::seen, mlp_layout::specs::Layout::made, mlp_layout::specs::Layout::never, mlp_layout::specs::Combined::chosen, mlp_layout::specs::Combined::present, crate::specs::Blocks::against))]
+fn read_params_if(
+    there: bool,
+    state: &Option<State>,
+    r: &mut BitReader,
+) -> Result<Option<Params>, Broken>
+    requires { IfSome state.now (λ s. IsState s) }
+    ensures read { Gives (λ x. x) r.old r.new result ((present there (against state.now params)).read r.old.all r.old.place) }
+    ensures allowed { IfOk result (λ o. IfSome o (λ p. IfSome state.now (λ s. Allowed (params s) p))) }
+{
+    if !there {
+        return Ok(None);
+    }
+    let Some(state) = state else {
+        return Err(broken(Field::RestartMissing, r.place()));
+    };
+    let params = read_params(state, r)?;
+    Ok(Some(params))
+}
+
+/// Puts parameters in force.
+fn apply_if(place: &Place, written: &Option<Params>, state: &mut Option<State>)
+    requires written { IfSome written.now (λ p. IfSome state.old (λ s. Allowed (params s) p)) }
+    requires state { IfSome state.old (λ s. FitsPlace place.now s) }
+    ensures value { state.new ≡ option_map (given written.now) state.old }
+    ensures state { IfSome state.new (λ s. FitsPlace place.now s) }
+{
+    if let (Some(params), Some(state)) = (written, state) {
+        apply(state, params);
+    }
+}
+
+fn block_size(state: &Option<State>) -> u16
+    ensures { result ≡ block_size_in state.now }
+{
+    match state {
+        None => 0,
+        Some(state) => state.block_size,
+    }
+}
+
+/// The head of a block. What it gives is put in force.
+#[tactic(auto, unfolding(mlp_layout::specs::Layout::part, mlp_layout::specs::Layout::made, crate::specs::Blocks::behind_flags, crate::specs::Blocks::head))]
+pub fn read_head(
+    place: &Place,
+    known: &Known,
+    due: bool,
+    state: &mut Option<State>,
+    r: &mut BitReader,
+) -> Result<BlockHead, Broken>
+    requires place { IsPlace place.now }
+    requires state { IfSome state.old (λ s. FitsPlace place.now s) }
+    ensures read { Gives (λ x. x) r.old r.new result ((head place.now known.now due state.old).read r.old.all r.old.place) }
+    ensures force { IfOk result (λ h. state.new ≡ after_head place.now state.old h) }
+    ensures frames { IfOk result (λ h. h.frames ≡ block_size_in state.new) }
+    ensures state { IfOk result (λ h. IfSome state.new (λ s. FitsPlace place.now s)) }
+{
+    let (given, restarts) = read_flags(due, r)?;
+    let restart = read_restart_if(restarts, known, place.format, r)?;
+    restart_at(place, &restart, state);
+    let params = read_params_if(given, state, r)?;
+    apply_if(place, &params, state);
+    Ok(BlockHead {
+        restart,
+        params,
+        frames: block_size(state),
+    })
+}
