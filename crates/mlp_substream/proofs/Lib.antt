@@ -2,3 +2,5 @@ pub mod CheckLaws
 pub mod BlockLaws
 pub mod SegmentLaws
 pub mod RestartReading
+pub mod ReadingLaws
+pub mod EndLaws

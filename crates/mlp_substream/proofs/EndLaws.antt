@@ -1,0 +1,104 @@
+-- How a segment is read, once its parts were.
+use Rattle.std.proofs.Common.{◌≡◌, ℕ, ◌+◌, ◌-◌, ◌<◌, ◌≤◌, Bool, true, false, cond, eqb, leb, List, length, take, Result, Ok, Err, Option, Some, None, refl, ap, ◌∙◌, arith}
+use Rattle.std.proofs.lemmas.Bool.{le-leb}
+use Rattle.mlp_syntax.specs.declared.segment.Segment.{Segment}
+use Rattle.mlp_syntax.specs.declared.segment.FrameCode.{FrameCode}
+use Rattle.mlp_syntax.specs.declared.fault.Field.{Field}
+use Rattle.mlp_syntax.specs.declared.fault.Field.TheVariants as rule
+use Rattle.mlp_syntax.specs.declared.fault.Broken.{Broken}
+use Rattle.mlp_layout.specs.Reading.{Read, broken, short}
+use Rattle.mlp_layout.specs.Layout.{Layout, number_of}
+use Rattle.mlp_layout.specs.Combined.{up_to_last}
+use Rattle.mlp_layout.specs.Tails.{then_tail, ending_read, part_tail, placed, ending, whole_text, Whole, EndJudge, judged_at_end, checked_part, parity_is, check_is, checked_first, chosen_whole}
+use Rattle.mlp_params.specs.declared.state.State.{State}
+use Rattle.mlp_substream.specs.declared.known.Place.{Place}
+use Rattle.mlp_substream.specs.declared.known.Known.{Known}
+use Rattle.mlp_substream.specs.Checks.{parity_of, check_of}
+use Rattle.mlp_substream.specs.Blocks.{At, Block, block, after_block}
+use Rattle.mlp_substream.specs.Segment.{heads_of, codes_of, terminator, padding_width, most_blocks, segment_tail, segment_text, segment, end_rules}
+
+abbrev done : {R : Type 0} → R → Result R Broken
+done r = Ok r
+
+abbrev made_of : {T R : Type 0} → (Option T → R) → Result (Option T) Broken → Result R Broken
+made_of made (Ok o) = Ok (made o)
+made_of made (Err e) = Err e
+
+pub ending_made : {T R : Type 0} (field : Field) (width : ℕ) (last : Layout T) (made : Option T → R) (all : List Bool) (p : ℕ) → ending_read field width last made all p ≡ made_of made (ending_read field width last (λ t. t) all p)
+ending_made field width last made all p = go (eqb (length all) p) (eqb (length all) (p + width)) (last.read all p)
+  where
+    go : (a b : Bool) (r : Read _) → cond a (done (made None)) (cond b (then_tail r (λ t. done (made (Some t.0)))) (Err (broken field p))) ≡ made_of made (cond a (done None) (cond b (then_tail r (λ t. done (Some t.0))) (Err (broken field p))))
+    go true b r = refl
+    go false true (Ok x) = refl
+    go false true (Err e) = refl
+    go false false r = refl
+
+abbrev record_of : List Block → Bool → ℕ → Option ℕ → Segment
+record_of bs checked padding t = record { blocks = record { items = heads_of bs }; codes = record { items = codes_of bs }; padding = padding; terminator = t; checked = checked }
+
+module _ (frames : State → ℕ → Layout (List FrameCode)) (place : Place) (known : Known) (at : At) (checked : Bool) (all : List Bool) where
+  pub tail_blocks_fail : (e : Broken) → (up_to_last (block frames place known) (after_block place) rule.BlockOverrun most_blocks at).read all 0 ≡ Err e → (whole_text (segment_tail frames place known at checked)).read all ≡ Err e
+  unfolding whole_text segment_tail part_tail
+  tail_blocks_fail e h = rw h refl
+
+  module _ (bs : List Block) (q : ℕ) (h : (up_to_last (block frames place known) (after_block place) rule.BlockOverrun most_blocks at).read all 0 ≡ Ok (bs, q)) where
+    pub tail_padding_fails : (e : Broken) → (number_of (padding_width q)).read all q ≡ Err e → (whole_text (segment_tail frames place known at checked)).read all ≡ Err e
+    unfolding whole_text segment_tail part_tail placed
+    tail_padding_fails e k = rw (h, k) refl
+
+    module _ (padding r : ℕ) (k : (number_of (padding_width q)).read all q ≡ Ok (padding, r)) where
+      pub tail_end_fails : (e : Broken) → ending_read rule.SegmentEnd 32 (terminator place.format) (λ t. t) all r ≡ Err e → (whole_text (segment_tail frames place known at checked)).read all ≡ Err e
+      unfolding whole_text segment_tail part_tail placed ending
+      tail_end_fails e l = rw (h, k) (ending_made rule.SegmentEnd 32 (terminator place.format) (record_of bs checked padding) all r ∙ ap (made_of (record_of bs checked padding)) l)
+
+      pub tail_reads : (t : Option ℕ) → ending_read rule.SegmentEnd 32 (terminator place.format) (λ t. t) all r ≡ Ok t
+          → (whole_text (segment_tail frames place known at checked)).read all ≡ Ok (record { blocks = record { items = heads_of bs }; codes = record { items = codes_of bs }; padding = padding; terminator = t; checked = checked })
+      unfolding whole_text segment_tail part_tail placed ending
+      tail_reads t l = rw (h, k) (ending_made rule.SegmentEnd 32 (terminator place.format) (record_of bs checked padding) all r ∙ ap (made_of (record_of bs checked padding)) l)
+
+-- ---- the rules at the end
+
+pub end_fails : {R : Type 0} (judge : EndJudge R) (v : Whole R) (all : List Bool) (e : Broken) → v.read all ≡ Err e → (judged_at_end judge v).read all ≡ Err e
+unfolding judged_at_end
+end_fails judge v all e h = rw h refl
+
+pub end_meets : {R : Type 0} (judge : EndJudge R) (v : Whole R) (all : List Bool) (r : R) → v.read all ≡ Ok r → judge (length all) r ≡ None → (judged_at_end judge v).read all ≡ Ok r
+unfolding judged_at_end
+end_meets judge v all r h k = rw (h, k) refl
+
+pub end_breaks : {R : Type 0} (judge : EndJudge R) (v : Whole R) (all : List Bool) (r : R) (b : Field × ℕ) → v.read all ≡ Ok r → judge (length all) r ≡ Some b → (judged_at_end judge v).read all ≡ Err (broken b.0 b.1)
+unfolding judged_at_end
+end_breaks judge v all r b h k = rw (h, k) refl
+
+-- ---- checks
+
+module _ {R : Type 0} (parity check : List Bool → ℕ) (v : Whole R) (all : List Bool) where
+  pub checked_short : length all < 32 → (checked_first parity check v).read all ≡ Err (short 0)
+  unfolding checked_first
+  checked_short h = let few : leb 32 (length all) ≡ false = grind arith in rw few refl
+
+  module _ (enough : 32 ≤ length all) where
+    pub checked_parity : parity_is parity all ≡ false → (checked_first parity check v).read all ≡ Err (broken rule.SegmentParity (length all - 16))
+    unfolding checked_first
+    checked_parity k = let long : leb 32 (length all) ≡ true = le-leb _ _ enough in rw (long, k) refl
+
+    pub checked_check : parity_is parity all ≡ true → check_is check all ≡ false → (checked_first parity check v).read all ≡ Err (broken rule.SegmentCheck (length all - 8))
+    unfolding checked_first
+    checked_check k m = let long : leb 32 (length all) ≡ true = le-leb _ _ enough in rw (long, k, m) refl
+
+    pub checked_text : parity_is parity all ≡ true → check_is check all ≡ true → (checked_first parity check v).read all ≡ v.read (checked_part all)
+    unfolding checked_first
+    checked_text k m = let long : leb 32 (length all) ≡ true = le-leb _ _ enough in rw (long, k, m) refl
+
+-- ---- the segment with its checks, and without
+
+module _ (frames : State → ℕ → Layout (List FrameCode)) (place : Place) (known : Known) (force : Option State) where
+  pub segment_checked : (checked : Bool) (all : List Bool) → checked ≡ true → (segment frames place known force checked).read all ≡ (checked_first parity_of check_of (segment_text frames place known force true)).read all
+  unfolding segment chosen_whole
+  segment_checked true all h = refl
+  segment_checked false all h = absurd cc
+
+  pub segment_plain : (checked : Bool) (all : List Bool) → checked ≡ false → (segment frames place known force checked).read all ≡ (segment_text frames place known force false).read all
+  unfolding segment chosen_whole
+  segment_plain true all h = absurd cc
+  segment_plain false all h = refl

@@ -1,0 +1,109 @@
+-- How a block and a list of blocks are read, once their parts were.
+use Rattle.std.proofs.Common.{◌≡◌, ℕ, suc, ◌+◌, ◌<◌, ◌≤◌, Bool, true, false, leb, List, [], ◌∷◌, ◌++◌, Result, Ok, Err, Option, Some, None, refl, sym, ap, ◌∙◌, append_assoc, arith}
+use Rattle.std.proofs.lemmas.Bool.{le-leb}
+use Rattle.std.proofs.lemmas.List.{append-nil}
+use Rattle.mlp_syntax.specs.declared.segment.FrameCode.{FrameCode}
+use Rattle.mlp_syntax.specs.declared.segment.BlockHead.{BlockHead}
+use Rattle.mlp_syntax.specs.declared.segment.Segment.{Segment}
+use Rattle.mlp_syntax.specs.declared.fault.Field.TheVariants as rule
+use Rattle.mlp_syntax.specs.declared.fault.Broken.{Broken}
+use Rattle.mlp_layout.specs.Reading.{Read, ◌>>=◌, broken, with_front}
+use Rattle.mlp_layout.specs.Layout.{Layout, part, made, tested}
+use Rattle.mlp_params.specs.declared.state.State.{State}
+use Rattle.mlp_substream.specs.declared.known.Place.{Place}
+use Rattle.mlp_substream.specs.declared.known.Known.{Known}
+use Rattle.mlp_substream.specs.Blocks.{At, Block, against, steps_fit, head, after_head, block, force_after}
+use Rattle.mlp_substream.specs.Segment.{heads_of, codes_of}
+
+abbrev pub at_of : Option State → ℕ → Bool → At
+at_of force so_far due = record { force = force; so_far = so_far; due = due }
+
+abbrev ok_of : {A : Type 0} → A → Result A Broken
+ok_of x = Ok x
+
+ok_is : {A : Type 0} (x y : A) → ok_of x ≡ ok_of y → x ≡ y
+ok_is x y e = cc
+
+-- what was appended is what was read
+pub record Appended {A : Type 0} (before after : List A) (place : ℕ) (read : Read (List A)) : Type 0 where
+  pub items : List A
+  pub read_is : read ≡ Ok (items, place)
+  pub after_is : after ≡ before ++ items
+
+pub appended : {A : Type 0} (before after : List A) (place : ℕ) (read : Read (List A)) → with_front before read ≡ Ok (after, place) → Appended before after place read
+appended before after place (Ok x) h =
+    let same = ok_is (before ++ x.0, x.1) (after, place) h in
+    record { items = x.0; read_is = ap (λ (p : ℕ). ok_of (x.0, p)) (ap (λ (y : List _ × ℕ). y.1) same); after_is = sym (ap (λ (y : List _ × ℕ). y.0) same) }
+appended before after place (Err e) h = absurd cc
+
+module _ (frames : State → ℕ → Layout (List FrameCode)) (place : Place) (known : Known) (at : At) (all : List Bool) (p : ℕ) where
+  pub block_head_fails : (e : Broken) → (head place known at.due at.force).read all p ≡ Err e → (block frames place known at).read all p ≡ Err e
+  unfolding block part
+  block_head_fails e h = rw h refl
+
+  module _ (h : BlockHead) (q : ℕ) (head_read : (head place known at.due at.force).read all p ≡ Ok (h, q)) where
+    pub block_step_fails : steps_fit (after_head place at.force h) ≡ false → (block frames place known at).read all p ≡ Err (broken rule.StepTooLarge q)
+    unfolding block part tested
+    block_step_fails k = rw (head_read, k) refl
+
+    module _ (k : steps_fit (after_head place at.force h) ≡ true) where
+      pub block_overruns : place.unit_frames < at.so_far + h.frames → (block frames place known at).read all p ≡ Err (broken rule.BlockOverrun q)
+      unfolding block part tested
+      block_overruns lt = let no-room : leb (at.so_far + h.frames) place.unit_frames ≡ false = grind arith in rw (head_read, k, no-room) refl
+
+      module _ (le : at.so_far + h.frames ≤ place.unit_frames) where
+        pub block_frames_fail : (e : Broken) → (against (after_head place at.force h) (λ s. frames s h.frames)).read all q ≡ Err e → (block frames place known at).read all p ≡ Err e
+        unfolding block part tested
+        block_frames_fail e f = let fits : leb (at.so_far + h.frames) place.unit_frames ≡ true = le-leb _ _ le in rw (head_read, k, fits, f) refl
+
+        pub block_reads : (fs : List FrameCode) (r : ℕ) → (against (after_head place at.force h) (λ s. frames s h.frames)).read all q ≡ Ok (fs, r) → (block frames place known at).read all p ≡ Ok (record { head = h; frames = fs }, r)
+        unfolding block part tested made
+        block_reads fs r f = let fits : leb (at.so_far + h.frames) place.unit_frames ≡ true = le-leb _ _ le in rw (head_read, k, fits, f) refl
+
+-- ---- the blocks so far
+
+pub heads_of-push : (bs : List Block) (b : Block) → heads_of (bs ++ b ∷ []) ≡ heads_of bs ++ b.head ∷ []
+unfolding heads_of
+heads_of-push [] b = refl
+heads_of-push (c ∷ bs) b = ap (λ (hs : List BlockHead). c.head ∷ hs) (heads_of-push bs b)
+
+pub codes_of-push : (bs : List Block) (b : Block) → codes_of (bs ++ b ∷ []) ≡ codes_of bs ++ b.frames
+unfolding codes_of
+codes_of-push [] b = append-nil b.frames
+codes_of-push (c ∷ bs) b = ap (λ (cs : List FrameCode). c.frames ++ cs) (codes_of-push bs b) ∙ sym (append_assoc c.frames (codes_of bs) b.frames)
+
+pub force_after-push : (place : Place) (force : Option State) (hs : List BlockHead) (h : BlockHead) → force_after place force (hs ++ h ∷ []) ≡ after_head place (force_after place force hs) h
+force_after-push place force [] h = refl
+force_after-push place force (g ∷ hs) h = force_after-push place (after_head place force g) hs h
+
+pub at_is : (s t : Option State) (m n : ℕ) (due : Bool) → s ≡ t → m ≡ n → at_of s m due ≡ at_of t n due
+at_is s t m n due e d = ap (λ (x : Option State). at_of x m due) e ∙ ap (λ (k : ℕ). at_of t k due) d
+
+-- a record with these blocks in place of its own
+abbrev pub with_blocks : Segment → List Block → Segment
+with_blocks s bs = record s { blocks = record { items = heads_of bs }; codes = record { items = codes_of bs } }
+
+filled : (before : Segment) (hs ks : List BlockHead) (cs ds : List FrameCode) → hs ≡ ks → cs ≡ ds → record before { blocks = record { items = hs }; codes = record { items = cs } } ≡ record before { blocks = record { items = ks }; codes = record { items = ds } }
+filled before hs ks cs ds e d = ap (λ (xs : List BlockHead). seg xs cs) e ∙ ap (λ (xs : List FrameCode). seg ks xs) d
+  where
+    seg : List BlockHead → List FrameCode → Segment
+    seg xs ys = record before { blocks = record { items = xs }; codes = record { items = ys } }
+
+pub out_starts : (s : Segment) → s.blocks.items ≡ [] → s.codes.items ≡ [] → s ≡ with_blocks s []
+unfolding heads_of codes_of
+out_starts s h k = filled s s.blocks.items [] s.codes.items [] h k
+
+pub out_more : (out before : Segment) (done : List Block) (b : Block) (hs : List BlockHead) (cs : List FrameCode) → out ≡ with_blocks before done → hs ≡ out.blocks.items ++ b.head ∷ [] → cs ≡ out.codes.items ++ b.frames
+    → record out { blocks = record { items = hs }; codes = record { items = cs } } ≡ with_blocks before (done ++ b ∷ [])
+out_more out before done b hs cs o h k =
+    let heads : hs ≡ heads_of (done ++ b ∷ []) = h ∙ ap (λ (s : Segment). s.blocks.items ++ b.head ∷ []) o ∙ sym (heads_of-push done b) in
+    let codes : cs ≡ codes_of (done ++ b ∷ []) = k ∙ ap (λ (s : Segment). s.codes.items ++ b.frames) o ∙ sym (codes_of-push done b) in
+    ap (λ (s : Segment). record s { blocks = record { items = hs }; codes = record { items = cs } }) o ∙ filled before hs (heads_of (done ++ b ∷ [])) cs (codes_of (done ++ b ∷ [])) heads codes
+
+pub no_front : {A : Type 0} (r : Read (List A)) → with_front [] r ≡ r
+no_front (Ok x) = refl
+no_front (Err e) = refl
+
+pub force_starts : (place : Place) (force : Option State) → force ≡ force_after place force (heads_of [])
+unfolding heads_of
+force_starts place force = refl
