@@ -10,6 +10,7 @@ mod sample;
 
 pub use history::History;
 pub use predictor::Predictor;
+pub use sample::dot;
 
 #[cfg(test)]
 mod tests;

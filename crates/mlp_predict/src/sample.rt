@@ -7,7 +7,7 @@ ghost use Rattle.mlp_predict.specs.Prediction.{dot, IsCoefficient};
 
 use mlp_arith::{clear, wrap};
 
-/// The sum of the coefficients times the values that they belong to.
+/// The sum of at most 16 coefficients of 16 signed bits times the values that they belong to, the first to the first.
 #[inline]
 pub fn dot(coeffs: &[i32], values: &[i32]) -> i64
     requires few { length coeffs.now ≤ 16 }

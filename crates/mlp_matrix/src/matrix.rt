@@ -1,0 +1,109 @@
+//! Rows in order, over one frame and over many.
+
+ghost use Rattle.std.specs.Prelude.{◌≡◌, ◌<◌, ◌≤◌, ◌==◌, ◌/◌, ◌%◌, ◌^◌, length, All};
+ghost use Rattle.mlp_predict.specs.Prediction.{IsCoefficient};
+ghost use Rattle.mlp_matrix.specs.Matrix.{applied, applied_each, weights, weighted_each, has_bit, IsRow, AreRows};
+
+use crate::row::{put_weighted, weights};
+use mlp_syntax::MatrixRow;
+
+/// Whether bit `i` is set.
+#[inline]
+fn has_bit(bits: u8, i: usize) -> bool
+    requires { i < 8 }
+    ensures { result ≡ has_bit bits i }
+{
+    (bits >> i) & 1 == 1
+}
+
+/// Applies the rows in order to a frame of `channels` channels, behind which, where the rows have noise sources, the
+/// two noise values stand. Row `i` adds bit `i` of `bypass`, the bits that were read for this frame.
+pub fn apply(rows: &[MatrixRow], steps: &[u8], channels: u8, frame: &mut [i32; 10], bypass: u8)
+    requires { AreRows rows.now steps.now channels }
+    ensures { frame.new ≡ applied rows.now steps.now bypass frame.old }
+{
+    for i in 0..rows.len() {
+        let row = &rows[i];
+        let dest = usize::from(row.dest);
+        let weights: [i32; 10] = weights(row.coeffs.as_slice(), row.frac);
+        put_weighted(&weights, dest, steps[dest], has_bit(bypass, i), frame);
+    }
+}
+
+/// Puts what `M` weights of the row at place `index` make of each frame at its destination.
+fn put_each<const M: usize>(
+    weights: &[i32; M],
+    dest: usize,
+    step: u8,
+    index: usize,
+    frames: &mut [[i32; 10]],
+    bypass: &[u8],
+)
+    requires few { M ≤ 10 }
+    requires small { All IsCoefficient weights.now }
+    requires dest { dest < 10 }
+    requires step { step < 16 }
+    requires index { index < 8 }
+    requires bits { length bypass.now ≡ length frames.old }
+    ensures { frames.new ≡ weighted_each weights.now dest step index bypass.now frames.old }
+{
+    for i in 0..frames.len() {
+        let bit = has_bit(bypass[i], index);
+        put_weighted(weights, dest, step, bit, &mut frames[i]);
+    }
+}
+
+/// One row over many frames, by sums of `M` products.
+fn put_row<const M: usize>(
+    row: &MatrixRow,
+    step: u8,
+    index: usize,
+    frames: &mut [[i32; 10]],
+    bypass: &[u8],
+)
+    requires few { M ≤ 10 }
+    requires room { length row.now.coeffs.items ≤ M }
+    requires row { IsRow 8 row.now }
+    requires step { step < 16 }
+    requires index { index < 8 }
+    requires bits { length bypass.now ≡ length frames.old }
+    ensures { frames.new ≡ weighted_each (weights row.now) row.now.dest step index bypass.now frames.old }
+{
+    let weights: [i32; M] = weights(row.coeffs.as_slice(), row.frac);
+    put_each(&weights, usize::from(row.dest), step, index, frames, bypass);
+}
+
+/// One row over many frames.
+fn put_row_each(row: &MatrixRow, step: u8, index: usize, frames: &mut [[i32; 10]], bypass: &[u8])
+    requires row { IsRow 8 row.now }
+    requires step { step < 16 }
+    requires index { index < 8 }
+    requires bits { length bypass.now ≡ length frames.old }
+    ensures { frames.new ≡ weighted_each (weights row.now) row.now.dest step index bypass.now frames.old }
+{
+    match row.coeffs.as_slice().len() {
+        0..=2 => put_row::<2>(row, step, index, frames, bypass),
+        3..=4 => put_row::<4>(row, step, index, frames, bypass),
+        5..=6 => put_row::<6>(row, step, index, frames, bypass),
+        7..=8 => put_row::<8>(row, step, index, frames, bypass),
+        _ => put_row::<10>(row, step, index, frames, bypass),
+    }
+}
+
+/// Does to each frame what `apply` does, with its own bypassed bits. A row's weights are prepared once.
+pub fn apply_block(
+    rows: &[MatrixRow],
+    steps: &[u8],
+    channels: u8,
+    frames: &mut [[i32; 10]],
+    bypass: &[u8],
+)
+    requires rows { AreRows rows.now steps.now channels }
+    requires bits { length bypass.now ≡ length frames.old }
+    ensures { frames.new ≡ applied_each rows.now steps.now bypass.now frames.old }
+{
+    for i in 0..rows.len() {
+        let row = &rows[i];
+        put_row_each(row, steps[usize::from(row.dest)], i, frames, bypass);
+    }
+}
