@@ -1,0 +1,47 @@
+-- Raw PCM: frames one after the other, channels in order, samples little-endian and signed.
+use Rattle.std.specs.Prelude.{◌≡◌, ℕ, zero, suc, ◌-◌, ◌*◌, ◌/◌, ◌%◌, ◌^◌, ◌<◌, ◌==◌, ℤ, pos, ◌*ℤ◌, Bool, false, List, [], ◌∷◌, ◌++◌, length, take, drop, replicate, slice_index_or, if◌then◌else◌, IsTrue}
+use Rattle.std.specs.Int.{w64, cast_unsigned}
+use Rattle.std.specs.List.{list_all, flat_map}
+use Rattle.byteorder.specs.Endian.{little_number, little_bytes, twos_complement, low_bytes}
+
+-- The sample of 24 bits in the first bytes. One of two bytes counts 256 times.
+unfoldable pub sample_in : ℕ → List ℕ → ℤ
+sample_in width bytes = if width == 2 then twos_complement 2 (little_number 2 bytes) *ℤ pos 256 else twos_complement 3 (little_number 3 bytes)
+
+-- n values, each of the next bytes, of which it takes so many
+unfoldable pub pieces : {A : Type 0} → (List ℕ → A) → ℕ → ℕ → List ℕ → List A
+pieces value size zero bytes = []
+pieces value size (suc n) bytes = value bytes ∷ pieces value size n (drop size bytes)
+
+-- the samples of a frame's channels, and 0 in the other places
+abbrev pub row_in : ℕ → ℕ → List ℕ → List ℤ
+row_in width channels bytes = pieces (sample_in width) width channels bytes ++ replicate (8 - channels) (pos 0)
+
+-- the rows of all frames
+abbrev pub rows_in : ℕ → ℕ → List ℕ → List (List ℤ)
+rows_in width channels bytes = pieces (row_in width channels) (channels * width) (length bytes / (channels * width)) bytes
+
+-- the low bits that a sample of this depth doesn't have are 0
+unfoldable pub is_clear : ℕ → ℤ → Bool
+is_clear depth sample = cast_unsigned w64 sample % 2 ^ (24 - depth) == 0
+
+-- .. in each sample
+abbrev pub are_clear : ℕ → List ℤ → Bool
+are_clear depth samples = list_all (is_clear depth) samples
+
+-- row i is the first at which the test fails
+pub record IsFirstFailing (test : List ℤ → Bool) (rows : List (List ℤ)) (i : ℕ) : Type 0 where
+  pub within : i < length rows
+  pub before : IsTrue (list_all test (take i rows))
+  pub here : test (slice_index_or rows i []) ≡ false
+
+-- the three bytes of a sample, and of a sample of 16 bits the upper two
+unfoldable pub sample_bytes : ℕ → ℤ → List ℕ
+sample_bytes bits sample = if bits == 16 then drop 1 (little_bytes 3 (low_bytes w64 3 sample)) else little_bytes 3 (low_bytes w64 3 sample)
+
+abbrev pub row_bytes : ℕ → ℕ → List ℤ → List ℕ
+row_bytes bits channels row = flat_map (sample_bytes bits) (take channels row)
+
+-- the bytes of all frames
+abbrev pub packed : ℕ → ℕ → List (List ℤ) → List ℕ
+packed bits channels rows = flat_map (row_bytes bits channels) rows

@@ -1,0 +1,149 @@
+//! Raw PCM: frames one after the other, channels in order, samples little-endian and signed.
+ghost use Rattle.std.specs.Prelude.{◌≡◌, ◌⊎◌, ◌++◌, ◌+◌, ◌*◌, ◌%◌, ◌/◌, ◌^◌, ◌≤◌, ◌<◌, ◌&&◌, ◌==◌, not, take, drop, length, IfErr, OnOk, OnErr, IsTrue, []};
+ghost use Rattle.std.specs.List.{list_all, flat_map};
+ghost use Rattle.arrayvec.specs.ArrayVec.{array_vec_len};
+ghost use Rattle.mlp_pcm.specs.Samples.{sample_in, row_in, rows_in, is_clear, are_clear, IsFirstFailing, sample_bytes, row_bytes, packed};
+
+use arrayvec::ArrayVec;
+use byteorder::{ByteOrder, LittleEndian};
+use mlp_syntax::Frames;
+
+/// The sample in the first bytes, as one of 24 bits.
+#[tactic(auto, unfolding(crate::specs::Samples::sample_in))]
+fn sample(bytes: &[u8], width: u8) -> i32
+    requires bytes { width ≤ length bytes.now }
+    requires width { (width ≡ 2) ⊎ (width ≡ 3) }
+    ensures { result ≡ sample_in width bytes.now }
+{
+    if width == 2 {
+        i32::from(LittleEndian::read_i16(bytes)) * 256
+    } else {
+        LittleEndian::read_i24(bytes)
+    }
+}
+
+/// The bytes behind the first ones.
+fn behind(bytes: &[u8], size: usize) -> &[u8]
+    requires { size ≤ length bytes.now }
+    ensures { result.now ≡ drop size bytes.now }
+{
+    &bytes[size..]
+}
+
+/// The samples of a frame, and 0 in the other places.
+fn row(bytes: &[u8], width: u8, channels: u8) -> [i32; 8]
+    requires bytes { channels * width ≤ length bytes.now }
+    requires width { (width ≡ 2) ⊎ (width ≡ 3) }
+    requires channels { channels ≤ 8 }
+    ensures { result ≡ row_in width channels bytes.now }
+{
+    let mut row = [0; 8];
+    let mut rest = bytes;
+    for channel in 0..channels as usize {
+        row[channel] = sample(rest, width);
+        rest = behind(rest, width as usize);
+    }
+    row
+}
+
+/// Whether a sample's low bits are 0 that its depth doesn't have.
+#[tactic(auto, unfolding(crate::specs::Samples::is_clear))]
+fn clear(sample: i32, depth: u8) -> bool
+    requires { depth ≤ 24 }
+    ensures { result ≡ is_clear depth sample }
+{
+    i64::from(sample).cast_unsigned() % (1 << (24 - depth)) == 0
+}
+
+/// Whether that holds of all samples.
+fn all_clear(samples: &[i32], depth: u8) -> bool
+    requires { depth ≤ 24 }
+    ensures { result ≡ are_clear depth samples.now }
+{
+    samples.iter().all(|sample| clear(*sample, depth))
+}
+
+/// Replaces `out` by the frames of these bytes, which have whole frames of 1 to 8 channels, at most 160. A sample has 2
+/// bytes at depth 16, and 3 bytes at depths 20 and 24.
+///
+/// # Errors
+///
+/// The number of the first frame that has a sample whose low bits, which its depth doesn't have, are not 0. `out` then has
+/// the frames before it.
+#[tactic(auto, unfolding(crate::specs::Samples::pieces))]
+pub fn unpack(bytes: &[u8], width: u8, depth: u8, channels: u8, out: &mut Frames) -> Result<(), u32>
+    requires form { ((width ≡ 2) × (depth ≡ 16)) ⊎ ((width ≡ 3) × ((depth ≡ 20) ⊎ (depth ≡ 24))) }
+    requires channels { (1 ≤ channels) × (channels ≤ 8) }
+    requires whole { length bytes.now % (channels * width) ≡ 0 }
+    requires few { length bytes.now / (channels * width) ≤ 160 }
+    ensures channels { out.new.channels ≡ channels }
+    ensures ok { OnOk result ((out.new.rows.items ≡ rows_in width channels bytes.now) × IsTrue (list_all (are_clear depth) (rows_in width channels bytes.now))) }
+    ensures err { IfErr result (λ i. IsFirstFailing (are_clear depth) (rows_in width channels bytes.now) i × (out.new.rows.items ≡ take i (rows_in width channels bytes.now))) }
+{
+    out.channels = channels;
+    out.rows.clear();
+    let size = channels as usize * width as usize;
+    let count = bytes.len() / size;
+    let mut rest = bytes;
+    for frame in 0..count {
+        let row = row(rest, width, channels);
+        if !all_clear(&row, depth) {
+            return Err(frame as u32);
+        }
+        out.rows.push(row);
+        rest = behind(rest, size);
+    }
+    Ok(())
+}
+
+/// Puts a sample's bytes behind the others.
+#[tactic(auto, unfolding(crate::specs::Samples::sample_bytes))]
+fn put_sample(sample: i32, bits: u8, out: &mut ArrayVec<u8, 3840>)
+    requires { array_vec_len out.old + 3 ≤ 3840 }
+    ensures bytes { out.new.items ≡ out.old.items ++ sample_bytes bits sample }
+    ensures most { array_vec_len out.new ≤ array_vec_len out.old + 3 }
+{
+    let mut piece = [0; 3];
+    LittleEndian::write_i24(&mut piece, sample);
+    if bits != 16 {
+        out.push(piece[0]);
+    }
+    out.push(piece[1]);
+    out.push(piece[2]);
+}
+
+/// Puts the bytes of all samples behind the others.
+fn put_samples(samples: &[i32], bits: u8, out: &mut ArrayVec<u8, 3840>)
+    requires { array_vec_len out.old + 3 * length samples.now ≤ 3840 }
+    ensures bytes { out.new.items ≡ out.old.items ++ flat_map (sample_bytes bits) samples.now }
+    ensures most { array_vec_len out.new ≤ array_vec_len out.old + 3 * length samples.now }
+{
+    for sample in samples {
+        put_sample(*sample, bits, out);
+    }
+}
+
+/// Replaces `out` by the bytes of these frames: 3 bytes a sample, or the upper 2 where `bits` is 16.
+///
+/// # Errors
+///
+/// The number of the first frame that has a sample whose low byte isn't 0, where `bits` is 16. `out` is then empty.
+pub fn pack(frames: &Frames, bits: u8, out: &mut ArrayVec<u8, 3840>) -> Result<(), u32>
+    requires bits { (bits ≡ 16) ⊎ (bits ≡ 24) }
+    requires channels { frames.now.channels ≤ 8 }
+    ensures ok { OnOk result ((out.new.items ≡ packed bits frames.now.channels frames.now.rows.items) × IsTrue (list_all (λ row. are_clear bits (take frames.now.channels row)) frames.now.rows.items)) }
+    ensures err { IfErr result (λ i. IsFirstFailing (λ row. are_clear bits (take frames.now.channels row)) frames.now.rows.items i × (out.new.items ≡ [])) }
+{
+    out.clear();
+    let channels = frames.channels as usize;
+    let rows = frames.rows.as_slice();
+    for frame in 0..rows.len() {
+        let samples = &rows[frame][..channels];
+        if !all_clear(samples, bits) {
+            out.clear();
+            return Err(frame as u32);
+        }
+        put_samples(samples, bits, out);
+    }
+    Ok(())
+}
