@@ -1,0 +1,13 @@
+//! The program: its words, its commands and what it tells.
+#![tactic(auto)]
+
+mod decode;
+mod line;
+mod pcm;
+mod top;
+mod words;
+
+pub use decode::Decode;
+pub use line::{Line, line_of, status_of};
+pub use top::run;
+pub use words::{Command, plain};
