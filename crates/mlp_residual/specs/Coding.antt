@@ -1,0 +1,45 @@
+-- Residuals as symbols and low bits.
+use Rattle.std.specs.Prelude.{◌≡◌, ℕ, suc, zero, ◌+◌, ◌*◌, ◌/◌, ◌^◌, ◌<◌, ℤ, pos, ◌+ℤ◌, ◌-ℤ◌, ◌*ℤ◌, List, [], ◌∷◌, length}
+use Rattle.mlp_syntax.specs.declared.segment.Code.{Code}
+use Rattle.mlp_arith.specs.Words.{wrap}
+use Rattle.mlp_books.specs.Books.{symbol_in}
+
+-- how many symbols a book has; book 0 has the one that takes no bits
+abbrev pub symbols_of : ℕ → ℕ
+symbols_of zero = 1
+symbols_of (suc zero) = 18
+symbols_of (suc (suc zero)) = 16
+symbols_of (suc (suc (suc book))) = 15
+
+-- how far the values lie below those that the symbols and low bits spell: 7 * 2^b in a book, and 2^(b + 2 - book) in a
+-- book or 2^(b - 1) without one, where that power isn't negative
+abbrev pub below_of : ℕ → ℕ → ℕ
+below_of zero b = 2 ^ b / 2
+below_of (suc zero) b = 7 * 2 ^ b + 2 * 2 ^ b
+below_of (suc (suc zero)) b = 7 * 2 ^ b + 2 ^ b
+below_of (suc (suc (suc book))) b = 7 * 2 ^ b + 2 ^ b / 2
+
+-- the value of a symbol with b low bits, a number of quantisation steps
+abbrev pub value_of : ℕ → ℕ → ℤ → Code → ℤ
+value_of book b offset code = pos (code.symbol * 2 ^ b + code.low) +ℤ offset -ℤ pos (below_of book b)
+
+-- the residual of a code
+abbrev pub residual_of : ℕ → ℕ → ℤ → ℕ → Code → ℤ
+residual_of book b offset step code = wrap (value_of book b offset code *ℤ pos (2 ^ step))
+
+-- the code is one of the book with b low bits, and its residual is this one without any wrapping
+pub record Spells (book b : ℕ) (offset : ℤ) (step : ℕ) (residual : ℤ) (code : Code) : Type 0 where
+  pub symbol_in : code.symbol < symbols_of book
+  pub low_in : code.low < 2 ^ b
+  pub value : value_of book b offset code *ℤ pos (2 ^ step) ≡ residual
+
+-- ---- how many bits codes take
+
+-- those of the symbol's code, and the low bits
+abbrev pub length_of : ℕ → ℕ → Code → ℕ
+length_of book b code = length ((symbol_in book).spelling code.symbol) + b
+
+-- the residuals have codes, which take so many bits in all
+unfoldable pub TakeBits : ℕ → ℕ → ℤ → ℕ → List ℤ → ℕ → Type 0
+TakeBits book b offset step [] n = n ≡ 0
+TakeBits book b offset step (r ∷ rs) n = (code : Code) × (m : ℕ) × Spells book b offset step r code × TakeBits book b offset step rs m × (n ≡ length_of book b code + m)

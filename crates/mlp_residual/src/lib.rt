@@ -1,0 +1,16 @@
+//! Residuals and their codes, by the MLP syntax as publicly documented.
+//!
+//! A residual is coded as a symbol of a codebook and low bits behind it, or as low bits alone.
+#![tactic(auto)]
+
+mod coding;
+mod count;
+mod frames;
+mod in_force;
+mod laws;
+
+pub use coding::{code_of, residual};
+pub use count::bits_of;
+pub use frames::{ChannelCode, Coding, read_coded};
+pub use in_force::{coding_in_force, read_frames};
+pub use laws::{law_codes, law_frames};
