@@ -1,3 +1,4 @@
 pub mod UnitLaws
 pub mod DecodeLaws
 pub mod RunLaws
+pub mod OneAnswer

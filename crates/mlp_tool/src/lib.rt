@@ -2,6 +2,7 @@
 #![tactic(auto)]
 
 mod decode;
+pub mod laws;
 mod line;
 mod pcm;
 mod top;
