@@ -1,12 +1,15 @@
 -- What a major sync is spelled as, piece by piece.
-use Rattle.std.proofs.Common.{◌≡◌, ℕ, zero, suc, ◌+◌, ◌*◌, ◌%◌, ◌<◌, Bool, true, false, List, [], ◌∷◌, ◌++◌, length, Option, refl, sym, ap, ◌∙◌, append_assoc, arith}
-use Rattle.std.proofs.lemmas.List.{append-nil}
+use Rattle.std.proofs.Common.{◌≡◌, ℕ, zero, suc, ◌+◌, ◌*◌, ◌/◌, take, ◌%◌, ◌<◌, Bool, true, false, List, [], ◌∷◌, ◌++◌, length, Option, refl, sym, ap, ◌∙◌, append_assoc, arith}
+use Rattle.std.proofs.lemmas.List.{append-nil, take_at}
 use Rattle.std.specs.List.{flat_map}
 use Rattle.mlp_syntax.specs.declared.major.MajorSync.{MajorSync}
-use Rattle.mlp_bits.specs.Bits.{bits, digit, bits_of}
+use Rattle.mlp_bits.specs.Bits.{bits, digit, number, bits_of}
 use Rattle.mlp_bits.specs.Checks.{modulus16, rem}
+use Rattle.mlp_bits.proofs.BitLists.{length-bits}
+use Rattle.mlp_bits.proofs.ReadBack.{number-of}
 use Rattle.mlp_layout.specs.Layout.{Layout, Rule, number_of, seen, ruled, opening, whole, part, made, item}
 use Rattle.mlp_layout.specs.Combined.{under, flag, fixed, checked, chosen, times}
+use Rattle.mlp_layout.proofs.CombinedLaws.{times_count}
 use Rattle.mlp_layout.specs.Writing.{field_bits}
 use Rattle.mlp_major.proofs.MajorLaws.{fields_take, major_takes}
 use Rattle.mlp_major.specs.MajorSync.{format_info, kind_of, kind_bit, kind_bit_of, is_long, extension, fields, checked_sync, judged_sync, major_sync, rules, signed, sync, signature}
@@ -104,6 +107,20 @@ unfolding under
 under_fits [] l x fits = fits
 under_fits (rule ∷ rules) l x fits = ruled_fits rule l x (under_fits rules (ruled rule l) x fits)
 
+fits_ruled : {A : Type 0} (rule : Rule A) (l : Layout A) (x : A) → l.Fits x → (ruled rule l).Fits x
+unfolding ruled
+fits_ruled rule l x fits = fits
+
+pub fits_under : {A : Type 0} (rules : List (Rule A)) (l : Layout A) (x : A) → l.Fits x → (under rules l).Fits x
+unfolding under
+fits_under [] l x fits = fits
+fits_under (rule ∷ rules) l x fits = fits_under rules (ruled rule l) x (fits_ruled rule l x fits)
+
+-- whatever the first sync is
+pub fits_any : (a b : Option MajorSync) (m : MajorSync) → (major_sync a).Fits m → (major_sync b).Fits m
+unfolding major_sync opening judged_sync
+fits_any a b m fits = fits_under (rules b) _ m (under_fits (rules a) _ m fits)
+
 -- a sync is spelled with its signature and check
 pub sync_text : (first : Option MajorSync) (m : MajorSync) → (major_sync first).spelling m ≡ checked_sync.spelling (signed m)
 unfolding major_sync opening judged_sync seen ruled
@@ -119,3 +136,21 @@ sync_length first m fits = (major_takes first).takes m fits
 
 pub fields_whole : (m : MajorSync) → fields.Fits (signed m) → length (fields.spelling (signed m)) % 8 ≡ 0
 fields_whole m fits = omega (arith, fields_take.takes (signed m) fits)
+
+-- it begins with the sync word
+pub sync_begins : (first : Option MajorSync) (m : MajorSync) (rest : List Bool) → (major_sync first).Fits m → number (take 31 ((major_sync first).spelling m ++ rest)) ≡ sync
+sync_begins first m rest fits =
+    let later = (bits 1 (kind_bit_of (kind_of m.format)) ++ []) ++ (piece_2 m ++ (piece_3 m ++ (piece_4 m ++ piece_5 m))) in
+    let text : (major_sync first).spelling m ++ rest ≡ bits 31 sync ++ ((later ++ bits 16 (rem modulus16 (fields.spelling (signed m)))) ++ rest) =
+    rw (sync_text first m, checked_text m, fields_text m (sync_has_fields first m fits)) (simp append_assoc) in
+    ap (λ (t : List Bool). number (take 31 t)) text ∙ ap number (take_at (bits 31 sync) ((later ++ bits 16 (rem modulus16 (fields.spelling (signed m)))) ++ rest) 31 (length-bits 31 sync)) ∙ number-of 31 sync (omega arith)
+
+-- an extension has an even number of bytes
+pub extension_even : (long : Bool) (bytes : List ℕ) → (extension long).Fits bytes → length bytes % 2 ≡ 0
+unfolding extension chosen made item
+extension_even true [] fits = absurd fits
+extension_even true (b ∷ bs) fits = omega (arith, times_count (1 + 2 * (b / 16)) (number_of 8) bs fits.1)
+extension_even false bytes fits = ap (λ (xs : List ℕ). length xs % 2) fits
+
+pub sync_even : (first : Option MajorSync) (m : MajorSync) → (major_sync first).Fits m → length m.extension.items % 2 ≡ 0
+sync_even first m fits = extension_even (is_long (kind_of m.format) m.meaning) m.extension.items (sync_fits m (sync_has_fields first m fits)).extension

@@ -4,3 +4,5 @@ pub mod UnitReading
 pub mod ParityLaws
 pub mod DirectoryRules
 pub mod FrameLaws
+pub mod WordTexts
+pub mod WrittenLaws

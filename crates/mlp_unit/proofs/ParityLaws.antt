@@ -26,7 +26,7 @@ four_bits : (x : ℕ) (rest : List Bool) → half_byte_sum (bits 4 x ++ rest) �
 unfolding bits half_byte_sum
 four_bits x rest = ap (λ (n : ℕ). bit_xor n (half_byte_sum rest)) (number-bits 4 x)
 
-one_byte : (b : ℕ) (rest : List Bool) → b < 256 → half_byte_sum (bits 8 b ++ rest) ≡ bit_xor (b / 16) (bit_xor (b % 16) (half_byte_sum rest))
+pub one_byte : (b : ℕ) (rest : List Bool) → b < 256 → half_byte_sum (bits 8 b ++ rest) ≡ bit_xor (b / 16) (bit_xor (b % 16) (half_byte_sum rest))
 one_byte b rest lt =
     let high : b / 2 ^ 4 % 16 ≡ b / 16 = omega arith in
     rw (bits-split 4 4 b, append_assoc (bits 4 (b / 2 ^ 4)) (bits 4 b) rest, four_bits (b / 2 ^ 4) (bits 4 b ++ rest), high, four_bits b rest) refl

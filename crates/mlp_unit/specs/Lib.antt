@@ -2,3 +2,4 @@ pub mod Directory
 pub mod AccessUnit
 pub mod Frame
 pub mod Shape
+pub mod Written

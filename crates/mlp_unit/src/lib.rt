@@ -7,8 +7,10 @@ pub mod laws;
 mod outer;
 mod rules;
 mod segment;
+mod writing;
 
 pub use directory::read_directory;
 pub use head::frame;
 pub use outer::read_outer;
 pub use segment::segment_range;
+pub use writing::write_unit;
