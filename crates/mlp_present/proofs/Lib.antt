@@ -5,3 +5,4 @@ pub mod SegmentReading
 pub mod Closed
 pub mod Framed
 pub mod NextUnit
+pub mod AnswerLaws

@@ -1,3 +1,4 @@
 pub mod FirstForm
 pub mod Samples
 pub mod Decoding
+pub mod Meaning

@@ -11,3 +11,6 @@ mod segment;
 
 pub use decoder::Decoder;
 pub use refusal::Refusal;
+
+#[cfg(test)]
+mod tests;
