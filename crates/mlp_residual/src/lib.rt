@@ -8,9 +8,11 @@ mod count;
 mod frames;
 mod in_force;
 mod laws;
+mod writing;
 
 pub use coding::{code_of, residual};
 pub use count::bits_of;
 pub use frames::{ChannelCode, Coding, read_coded};
 pub use in_force::{coding_in_force, read_frames};
 pub use laws::{law_codes, law_frames};
+pub use writing::{write_coded, write_frames};
