@@ -8,3 +8,10 @@ pub mod RestartRanges
 pub mod ApplyLaws
 pub mod LawfulStates
 pub mod LawfulSteps
+pub mod WritingLoops
+pub mod WritingGroups
+pub mod WritingFilters
+pub mod WritingChannels
+pub mod WritingMatrices
+pub mod WritingParameters
+pub mod WritingHeaders

@@ -9,8 +9,15 @@ pub mod laws;
 mod matrices;
 mod parameters;
 mod state;
+mod write_channels;
+mod write_filters;
+mod write_header;
+mod write_matrices;
+mod write_parameters;
 
 pub use header::read_restart;
 pub use in_force::apply;
 pub use parameters::read_params;
 pub use state::{ChannelState, State};
+pub use write_header::write_restart;
+pub use write_parameters::write_params;
