@@ -1,5 +1,5 @@
 -- Heads and blocks are layouts.
-use Rattle.std.proofs.Common.{◌≡◌, ℕ, Bool, List, length, Option, Some, None, refl}
+use Rattle.std.proofs.Common.{[], ◌≡◌, ℕ, Bool, List, length, Option, Some, None, refl}
 use Rattle.std.specs.Prelude.{is_some}
 use Rattle.mlp_syntax.specs.declared.major.Kind.{Kind}
 use Rattle.mlp_syntax.specs.declared.segment.BlockHead.{BlockHead}
@@ -10,6 +10,8 @@ use Rattle.mlp_layout.proofs.CombinedLaws.{layouts, present_sets, under_is}
 use Rattle.mlp_params.specs.declared.state.State.{State}
 use Rattle.mlp_params.proofs.RestartLaws.{restart_is}
 use Rattle.mlp_params.proofs.ParameterLaws.{params_is}
+use Rattle.mlp_residual.specs.Frames.{coding_of, frame, coded_frames, frames_of}
+use Rattle.mlp_residual.proofs.FrameLaws.{frames_of_is, series-length}
 use Rattle.mlp_substream.specs.declared.known.Place.{Place}
 use Rattle.mlp_substream.specs.declared.known.Known.{Known}
 use Rattle.mlp_substream.specs.Restarts.{flags, restart_rules, judged_restart}
@@ -47,16 +49,19 @@ pub head_is : (place : Place) (known : Known) (due : Bool) (force : Option State
 unfolding head
 head_is place known due force = part_is _ (flags_is due) (behind_flags_is place known force) (λ f fits meets h rest. flags_set place known force f h rest)
 
-module _ (frames : State → ℕ → Layout (List FrameCode)) (frames_are : (s : State) (n : ℕ) → IsLayout (frames s n)) (frames_count : (s : State) (n : ℕ) (fs : List FrameCode) → (frames s n).Fits fs → length fs ≡ n) where
-  pub block_is : (place : Place) (known : Known) (at : At) → IsLayout (block frames place known at)
-  unfolding block
-  block_is place known at = search (layouts, head_is, against_is, frames_are) depth 40
+pub block_is : (place : Place) (known : Known) (at : At) → IsLayout (block place known at)
+unfolding block
+block_is place known at = search (layouts, head_is, against_is, frames_of_is) depth 40
 
-  against_count : (force : Option State) (n : ℕ) (fs : List FrameCode) → (against force (λ s. frames s n)).Fits fs → length fs ≡ n
-  unfolding against never
-  against_count None n fs fits = absurd fits
-  against_count (Some s) n fs fits = frames_count s n fs fits
+pub frames_count : (s : State) (n : ℕ) (fs : List FrameCode) → (frames_of s n).Fits fs → length fs ≡ n
+unfolding frames_of coded_frames
+frames_count s n fs fits = series-length (λ before. frame (coding_of s)) n [] fs fits
 
-  pub block_fits : (place : Place) (known : Known) (at : At) (b : Block) → (block frames place known at).Fits b → length b.frames ≡ b.head.frames
-  unfolding block part tested
-  block_fits place known at b fits = against_count _ b.head.frames b.frames fits.1.0
+against_count : (force : Option State) (n : ℕ) (fs : List FrameCode) → (against force (λ s. frames_of s n)).Fits fs → length fs ≡ n
+unfolding against never
+against_count None n fs fits = absurd fits
+against_count (Some s) n fs fits = frames_count s n fs fits
+
+pub block_fits : (place : Place) (known : Known) (at : At) (b : Block) → (block place known at).Fits b → length b.frames ≡ b.head.frames
+unfolding block part tested
+block_fits place known at b fits = against_count _ b.head.frames b.frames fits.1.0

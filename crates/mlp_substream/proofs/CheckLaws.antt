@@ -1,18 +1,22 @@
 -- The two checks of a segment.
-use Rattle.std.proofs.Common.{◌≡◌, ℕ, zero, suc, ◌+◌, ◌*◌, ◌-◌, ◌^◌, ◌<◌, ◌≤◌, Bool, List, [], ◌∷◌, ◌++◌, length, take, drop, get_or, refl, sym, ap, ◌∙◌, arith}
+use Rattle.std.proofs.Common.{◌≡◌, ◌≢◌, true, false, eqb, leb, eq-eqb, Option, Some, None, ℕ, zero, suc, ◌+◌, ◌*◌, ◌-◌, ◌^◌, ◌<◌, ◌≤◌, Bool, List, [], ◌∷◌, ◌++◌, length, take, drop, get_or, refl, sym, ap, ◌∙◌, arith}
 use Rattle.std.specs.Prelude.{fold, bit_xor}
+use Rattle.std.proofs.lemmas.Bool.{ne_eqb, le-leb, lt-leb}
+use Rattle.mlp_syntax.specs.declared.fault.Field.TheVariants as rule
+use Rattle.mlp_syntax.specs.declared.fault.Broken.{Broken}
+use Rattle.mlp_layout.specs.Reading.{broken, short}
 use Rattle.std.specs.List.{AllByRecursion}
 use Rattle.std.proofs.lemmas.Nat.{xor_lt}
-use Rattle.std.proofs.lemmas.List.{take_at, take-append-drop, length-take, drop_more, get_or-take}
+use Rattle.std.proofs.lemmas.List.{take_at, take-append-drop, length-take, drop_more}
 use Rattle.mlp_bits.specs.Bits.{bits, bits_of, number}
-use Rattle.mlp_bits.specs.Checks.{modulus8}
+use Rattle.mlp_bits.specs.Checks.{modulus8, segment_parity_of, check8_of}
 use Rattle.mlp_bits.proofs.ReadBack.{number-of}
 use Rattle.mlp_bits.proofs.BitLists.{bits_of-cons, length-bits_of, length-bits}
 use Rattle.mlp_bits.proofs.Words.{bits_of-append, bits_of-drop}
 use Rattle.mlp_bits.proofs.Fields.{number-below}
 use Rattle.mlp_bits.proofs.Remainders.{rem_from-smaller}
-use Rattle.mlp_layout.specs.Tails.{byte_at, checked_part}
-use Rattle.mlp_substream.specs.Checks.{bytes_of, parity_of, check_of}
+use Rattle.mlp_layout.specs.Tails.{byte_at, checked_part, parity_is, check_is}
+use Rattle.mlp_substream.specs.Checks.{bytes_of, parity_of, check_of, checks_fault}
 
 -- ---- both are bytes
 
@@ -78,3 +82,40 @@ module _ (bytes : List ℕ) (n : ℕ) (small : AreBytes bytes) (size : length by
 
   pub second_check : byte_at (length (bits_of bytes) - 8) (bits_of bytes) ≡ get_or bytes (n + 1) 0
   second_check = let e : length (bits_of bytes) - 8 ≡ 8 * (n + 1) = omega (arith, length-bits_of bytes) in rw e (byte_there bytes (n + 1) small (omega arith))
+
+-- ---- the faults of checks
+
+pub short_fault : (bytes : List ℕ) → length bytes < 4 → checks_fault (bits_of bytes) ≡ Some (short 0)
+short_fault bytes lt = let few : leb 32 (length (bits_of bytes)) ≡ false = lt-leb _ _ (omega (arith, length-bits_of bytes)) in rw few refl
+
+module _ (bytes : List ℕ) (n : ℕ) (small : AreBytes bytes) (size : length bytes ≡ n + 2) (some : 2 ≤ n) where
+  long : leb 32 (length (bits_of bytes)) ≡ true
+  long = le-leb _ _ (omega (arith, length-bits_of bytes))
+
+  parity_test : (b : Bool) → eqb (get_or bytes n 0) (segment_parity_of (take n bytes)) ≡ b → parity_is parity_of (bits_of bytes) ≡ b
+  parity_test b e = rw (first_check bytes n small size, text_bytes bytes n small size) e
+
+  check_test : (b : Bool) → eqb (get_or bytes (n + 1) 0) (check8_of (take n bytes)) ≡ b → check_is check_of (bits_of bytes) ≡ b
+  check_test b e = rw (second_check bytes n small size, text_bytes bytes n small size) e
+
+  abbrev fault_of : Broken → Option Broken
+  fault_of e = Some e
+
+  pub parity_fault : get_or bytes n 0 ≢ segment_parity_of (take n bytes) → checks_fault (bits_of bytes) ≡ Some (broken rule.SegmentParity (n * 8))
+  parity_fault other =
+      let p = parity_test false (ne_eqb _ _ other) in
+      let at : length (bits_of bytes) - 16 ≡ n * 8 = omega (arith, length-bits_of bytes) in
+      rw (long, p) (ap (λ (k : ℕ). fault_of (broken rule.SegmentParity k)) at)
+
+  pub check_fault : get_or bytes n 0 ≡ segment_parity_of (take n bytes) → get_or bytes (n + 1) 0 ≢ check8_of (take n bytes) → checks_fault (bits_of bytes) ≡ Some (broken rule.SegmentCheck (n * 8 + 8))
+  check_fault same other =
+      let p = parity_test true (eq-eqb _ _ same) in
+      let c = check_test false (ne_eqb _ _ other) in
+      let at : length (bits_of bytes) - 8 ≡ n * 8 + 8 = omega (arith, length-bits_of bytes) in
+      rw (long, p, c) (ap (λ (k : ℕ). fault_of (broken rule.SegmentCheck k)) at)
+
+  pub no_fault : get_or bytes n 0 ≡ segment_parity_of (take n bytes) → get_or bytes (n + 1) 0 ≡ check8_of (take n bytes) → checks_fault (bits_of bytes) ≡ None
+  no_fault same other =
+      let p = parity_test true (eq-eqb _ _ same) in
+      let c = check_test true (eq-eqb _ _ other) in
+      rw (long, p, c) refl

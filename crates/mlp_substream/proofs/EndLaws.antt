@@ -1,8 +1,7 @@
 -- How a segment is read, once its parts were.
-use Rattle.std.proofs.Common.{◌≡◌, ℕ, ◌+◌, ◌-◌, ◌<◌, ◌≤◌, Bool, true, false, cond, eqb, leb, List, length, take, Result, Ok, Err, Option, Some, None, refl, ap, ◌∙◌, arith}
-use Rattle.std.proofs.lemmas.Bool.{le-leb}
+use Rattle.std.proofs.Common.{◌≡◌, ℕ, ◌+◌, ◌-◌, ◌≤◌, Bool, true, false, cond, eqb, leb, List, length, Result, Ok, Err, Option, Some, None, refl, ap, ◌∙◌}
+use Rattle.std.proofs.lemmas.Bool.{leb-true}
 use Rattle.mlp_syntax.specs.declared.segment.Segment.{Segment}
-use Rattle.mlp_syntax.specs.declared.segment.FrameCode.{FrameCode}
 use Rattle.mlp_syntax.specs.declared.fault.Field.{Field}
 use Rattle.mlp_syntax.specs.declared.fault.Field.TheVariants as rule
 use Rattle.mlp_syntax.specs.declared.fault.Broken.{Broken}
@@ -13,9 +12,12 @@ use Rattle.mlp_layout.specs.Tails.{then_tail, ending_read, part_tail, placed, en
 use Rattle.mlp_params.specs.declared.state.State.{State}
 use Rattle.mlp_substream.specs.declared.known.Place.{Place}
 use Rattle.mlp_substream.specs.declared.known.Known.{Known}
-use Rattle.mlp_substream.specs.Checks.{parity_of, check_of}
+use Rattle.mlp_substream.specs.Checks.{parity_of, check_of, checks_fault}
 use Rattle.mlp_substream.specs.Blocks.{At, Block, block, after_block}
-use Rattle.mlp_substream.specs.Segment.{heads_of, codes_of, terminator, padding_width, most_blocks, segment_tail, segment_text, segment, end_rules}
+use Rattle.mlp_substream.specs.Segment.{heads_of, codes_of, terminator, padding_width, most_blocks, segment_tail, segment_text, segment}
+
+abbrev none_of : Option Broken
+none_of = None
 
 abbrev done : {R : Type 0} → R → Result R Broken
 done r = Ok r
@@ -36,23 +38,23 @@ ending_made field width last made all p = go (eqb (length all) p) (eqb (length a
 abbrev record_of : List Block → Bool → ℕ → Option ℕ → Segment
 record_of bs checked padding t = record { blocks = record { items = heads_of bs }; codes = record { items = codes_of bs }; padding = padding; terminator = t; checked = checked }
 
-module _ (frames : State → ℕ → Layout (List FrameCode)) (place : Place) (known : Known) (at : At) (checked : Bool) (all : List Bool) where
-  pub tail_blocks_fail : (e : Broken) → (up_to_last (block frames place known) (after_block place) rule.BlockOverrun most_blocks at).read all 0 ≡ Err e → (whole_text (segment_tail frames place known at checked)).read all ≡ Err e
+module _ (place : Place) (known : Known) (at : At) (checked : Bool) (all : List Bool) where
+  pub tail_blocks_fail : (e : Broken) → (up_to_last (block place known) (after_block place) rule.BlockOverrun most_blocks at).read all 0 ≡ Err e → (whole_text (segment_tail place known at checked)).read all ≡ Err e
   unfolding whole_text segment_tail part_tail
   tail_blocks_fail e h = rw h refl
 
-  module _ (bs : List Block) (q : ℕ) (h : (up_to_last (block frames place known) (after_block place) rule.BlockOverrun most_blocks at).read all 0 ≡ Ok (bs, q)) where
-    pub tail_padding_fails : (e : Broken) → (number_of (padding_width q)).read all q ≡ Err e → (whole_text (segment_tail frames place known at checked)).read all ≡ Err e
+  module _ (bs : List Block) (q : ℕ) (h : (up_to_last (block place known) (after_block place) rule.BlockOverrun most_blocks at).read all 0 ≡ Ok (bs, q)) where
+    pub tail_padding_fails : (e : Broken) → (number_of (padding_width q)).read all q ≡ Err e → (whole_text (segment_tail place known at checked)).read all ≡ Err e
     unfolding whole_text segment_tail part_tail placed
     tail_padding_fails e k = rw (h, k) refl
 
     module _ (padding r : ℕ) (k : (number_of (padding_width q)).read all q ≡ Ok (padding, r)) where
-      pub tail_end_fails : (e : Broken) → ending_read rule.SegmentEnd 32 (terminator place.format) (λ t. t) all r ≡ Err e → (whole_text (segment_tail frames place known at checked)).read all ≡ Err e
+      pub tail_end_fails : (e : Broken) → ending_read rule.SegmentEnd 32 (terminator place.format) (λ t. t) all r ≡ Err e → (whole_text (segment_tail place known at checked)).read all ≡ Err e
       unfolding whole_text segment_tail part_tail placed ending
       tail_end_fails e l = rw (h, k) (ending_made rule.SegmentEnd 32 (terminator place.format) (record_of bs checked padding) all r ∙ ap (made_of (record_of bs checked padding)) l)
 
       pub tail_reads : (t : Option ℕ) → ending_read rule.SegmentEnd 32 (terminator place.format) (λ t. t) all r ≡ Ok t
-          → (whole_text (segment_tail frames place known at checked)).read all ≡ Ok (record { blocks = record { items = heads_of bs }; codes = record { items = codes_of bs }; padding = padding; terminator = t; checked = checked })
+          → (whole_text (segment_tail place known at checked)).read all ≡ Ok (record { blocks = record { items = heads_of bs }; codes = record { items = codes_of bs }; padding = padding; terminator = t; checked = checked })
       unfolding whole_text segment_tail part_tail placed ending
       tail_reads t l = rw (h, k) (ending_made rule.SegmentEnd 32 (terminator place.format) (record_of bs checked padding) all r ∙ ap (made_of (record_of bs checked padding)) l)
 
@@ -72,33 +74,46 @@ end_breaks judge v all r b h k = rw (h, k) refl
 
 -- ---- checks
 
-module _ {R : Type 0} (parity check : List Bool → ℕ) (v : Whole R) (all : List Bool) where
-  pub checked_short : length all < 32 → (checked_first parity check v).read all ≡ Err (short 0)
-  unfolding checked_first
-  checked_short h = let few : leb 32 (length all) ≡ false = grind arith in rw few refl
+fault_or : {R : Type 0} → Option Broken → Result R Broken → Result R Broken
+fault_or None r = r
+fault_or (Some e) r = Err e
 
-  module _ (enough : 32 ≤ length all) where
-    pub checked_parity : parity_is parity all ≡ false → (checked_first parity check v).read all ≡ Err (broken rule.SegmentParity (length all - 16))
-    unfolding checked_first
-    checked_parity k = let long : leb 32 (length all) ≡ true = le-leb _ _ enough in rw (long, k) refl
+module _ {R : Type 0} (v : Whole R) (all : List Bool) where
+  checked_by : (checked_first parity_of check_of v).read all ≡ fault_or (checks_fault all) (v.read (checked_part all))
+  unfolding checked_first fault_or
+  checked_by = go (leb 32 (length all)) (parity_is parity_of all) (check_is check_of all)
+    where
+      go : (l p c : Bool) → cond l (cond p (cond c (v.read (checked_part all)) (Err (broken rule.SegmentCheck (length all - 8)))) (Err (broken rule.SegmentParity (length all - 16)))) (Err (short 0))
+          ≡ fault_or (cond l (cond p (cond c None (Some (broken rule.SegmentCheck (length all - 8)))) (Some (broken rule.SegmentParity (length all - 16)))) (Some (short 0))) (v.read (checked_part all))
+      go false p c = refl
+      go true false c = refl
+      go true true false = refl
+      go true true true = refl
 
-    pub checked_check : parity_is parity all ≡ true → check_is check all ≡ false → (checked_first parity check v).read all ≡ Err (broken rule.SegmentCheck (length all - 8))
-    unfolding checked_first
-    checked_check k m = let long : leb 32 (length all) ≡ true = le-leb _ _ enough in rw (long, k, m) refl
+  pub checked_fails : (e : Broken) → checks_fault all ≡ Some e → (checked_first parity_of check_of v).read all ≡ Err e
+  unfolding fault_or
+  checked_fails e h = checked_by ∙ rw h refl
 
-    pub checked_text : parity_is parity all ≡ true → check_is check all ≡ true → (checked_first parity check v).read all ≡ v.read (checked_part all)
-    unfolding checked_first
-    checked_text k m = let long : leb 32 (length all) ≡ true = le-leb _ _ enough in rw (long, k, m) refl
+  pub checked_text : checks_fault all ≡ None → (checked_first parity_of check_of v).read all ≡ v.read (checked_part all)
+  unfolding fault_or
+  checked_text h = checked_by ∙ rw h refl
+
+pub checked_long : (all : List Bool) → checks_fault all ≡ None → 32 ≤ length all
+checked_long all h = go (leb 32 (length all)) (parity_is parity_of all) (check_is check_of all) refl h
+  where
+    go : (l p c : Bool) → leb 32 (length all) ≡ l → cond l (cond p (cond c none_of (Some (broken rule.SegmentCheck (length all - 8)))) (Some (broken rule.SegmentParity (length all - 16)))) (Some (short 0)) ≡ None → 32 ≤ length all
+    go true p c e h = leb-true _ _ e
+    go false p c e h = absurd cc
 
 -- ---- the segment with its checks, and without
 
-module _ (frames : State → ℕ → Layout (List FrameCode)) (place : Place) (known : Known) (force : Option State) where
-  pub segment_checked : (checked : Bool) (all : List Bool) → checked ≡ true → (segment frames place known force checked).read all ≡ (checked_first parity_of check_of (segment_text frames place known force true)).read all
+module _ (place : Place) (known : Known) (force : Option State) where
+  pub segment_checked : (checked : Bool) (all : List Bool) → checked ≡ true → (segment place known force checked).read all ≡ (checked_first parity_of check_of (segment_text place known force true)).read all
   unfolding segment chosen_whole
   segment_checked true all h = refl
   segment_checked false all h = absurd cc
 
-  pub segment_plain : (checked : Bool) (all : List Bool) → checked ≡ false → (segment frames place known force checked).read all ≡ (segment_text frames place known force false).read all
+  pub segment_plain : (checked : Bool) (all : List Bool) → checked ≡ false → (segment place known force checked).read all ≡ (segment_text place known force false).read all
   unfolding segment chosen_whole
   segment_plain true all h = absurd cc
   segment_plain false all h = refl

@@ -3,4 +3,5 @@ pub mod BlockLaws
 pub mod SegmentLaws
 pub mod RestartReading
 pub mod ReadingLaws
+pub mod StepLaws
 pub mod EndLaws

@@ -1,18 +1,22 @@
 -- How a block and a list of blocks are read, once their parts were.
-use Rattle.std.proofs.Common.{◌≡◌, ℕ, suc, ◌+◌, ◌<◌, ◌≤◌, Bool, true, false, leb, List, [], ◌∷◌, ◌++◌, Result, Ok, Err, Option, Some, None, refl, sym, ap, ◌∙◌, append_assoc, arith}
-use Rattle.std.proofs.lemmas.Bool.{le-leb}
+use Rattle.std.proofs.Common.{◌≡◌, ℕ, ◌+◌, ◌<◌, ◌≤◌, Bool, true, false, leb, List, [], ◌∷◌, ◌++◌, Result, Ok, Err, Option, Some, None, refl, sym, ap, ◌∙◌, append_assoc, arith}
+use Rattle.std.specs.Prelude.{IfSome, ◌&&◌}
+use Rattle.std.proofs.lemmas.Bool.{le-leb, leb-true}
+use Rattle.mlp_params.specs.States.{IsState}
+use Rattle.mlp_params.proofs.RestartRanges.{rule_holds}
 use Rattle.std.proofs.lemmas.List.{append-nil}
 use Rattle.mlp_syntax.specs.declared.segment.FrameCode.{FrameCode}
 use Rattle.mlp_syntax.specs.declared.segment.BlockHead.{BlockHead}
 use Rattle.mlp_syntax.specs.declared.segment.Segment.{Segment}
 use Rattle.mlp_syntax.specs.declared.fault.Field.TheVariants as rule
 use Rattle.mlp_syntax.specs.declared.fault.Broken.{Broken}
-use Rattle.mlp_layout.specs.Reading.{Read, ◌>>=◌, broken, with_front}
-use Rattle.mlp_layout.specs.Layout.{Layout, part, made, tested}
+use Rattle.mlp_layout.specs.Reading.{Read, broken, with_front}
+use Rattle.mlp_layout.specs.Layout.{Layout, part, made, tested, never, ruled}
 use Rattle.mlp_params.specs.declared.state.State.{State}
+use Rattle.mlp_residual.specs.Frames.{frames_of}
 use Rattle.mlp_substream.specs.declared.known.Place.{Place}
 use Rattle.mlp_substream.specs.declared.known.Known.{Known}
-use Rattle.mlp_substream.specs.Blocks.{At, Block, against, steps_fit, head, after_head, block, force_after}
+use Rattle.mlp_substream.specs.Blocks.{At, Block, against, steps_fit_in, block_size_in, head, after_head, block, force_after, FitsPlace}
 use Rattle.mlp_substream.specs.Segment.{heads_of, codes_of}
 
 abbrev pub at_of : Option State → ℕ → Bool → At
@@ -36,27 +40,27 @@ appended before after place (Ok x) h =
     record { items = x.0; read_is = ap (λ (p : ℕ). ok_of (x.0, p)) (ap (λ (y : List _ × ℕ). y.1) same); after_is = sym (ap (λ (y : List _ × ℕ). y.0) same) }
 appended before after place (Err e) h = absurd cc
 
-module _ (frames : State → ℕ → Layout (List FrameCode)) (place : Place) (known : Known) (at : At) (all : List Bool) (p : ℕ) where
-  pub block_head_fails : (e : Broken) → (head place known at.due at.force).read all p ≡ Err e → (block frames place known at).read all p ≡ Err e
+module _ (place : Place) (known : Known) (at : At) (all : List Bool) (p : ℕ) where
+  pub block_head_fails : (e : Broken) → (head place known at.due at.force).read all p ≡ Err e → (block place known at).read all p ≡ Err e
   unfolding block part
   block_head_fails e h = rw h refl
 
   module _ (h : BlockHead) (q : ℕ) (head_read : (head place known at.due at.force).read all p ≡ Ok (h, q)) where
-    pub block_step_fails : steps_fit (after_head place at.force h) ≡ false → (block frames place known at).read all p ≡ Err (broken rule.StepTooLarge q)
+    pub block_step_fails : steps_fit_in (after_head place at.force h) ≡ false → (block place known at).read all p ≡ Err (broken rule.StepTooLarge q)
     unfolding block part tested
     block_step_fails k = rw (head_read, k) refl
 
-    module _ (k : steps_fit (after_head place at.force h) ≡ true) where
-      pub block_overruns : place.unit_frames < at.so_far + h.frames → (block frames place known at).read all p ≡ Err (broken rule.BlockOverrun q)
+    module _ (k : steps_fit_in (after_head place at.force h) ≡ true) where
+      pub block_overruns : place.unit_frames < at.so_far + h.frames → (block place known at).read all p ≡ Err (broken rule.BlockOverrun q)
       unfolding block part tested
       block_overruns lt = let no-room : leb (at.so_far + h.frames) place.unit_frames ≡ false = grind arith in rw (head_read, k, no-room) refl
 
       module _ (le : at.so_far + h.frames ≤ place.unit_frames) where
-        pub block_frames_fail : (e : Broken) → (against (after_head place at.force h) (λ s. frames s h.frames)).read all q ≡ Err e → (block frames place known at).read all p ≡ Err e
+        pub block_frames_fail : (e : Broken) → (against (after_head place at.force h) (λ s. frames_of s h.frames)).read all q ≡ Err e → (block place known at).read all p ≡ Err e
         unfolding block part tested
         block_frames_fail e f = let fits : leb (at.so_far + h.frames) place.unit_frames ≡ true = le-leb _ _ le in rw (head_read, k, fits, f) refl
 
-        pub block_reads : (fs : List FrameCode) (r : ℕ) → (against (after_head place at.force h) (λ s. frames s h.frames)).read all q ≡ Ok (fs, r) → (block frames place known at).read all p ≡ Ok (record { head = h; frames = fs }, r)
+        pub block_reads : (fs : List FrameCode) (r : ℕ) → (against (after_head place at.force h) (λ s. frames_of s h.frames)).read all q ≡ Ok (fs, r) → (block place known at).read all p ≡ Ok (record { head = h; frames = fs }, r)
         unfolding block part tested made
         block_reads fs r f = let fits : leb (at.so_far + h.frames) place.unit_frames ≡ true = le-leb _ _ le in rw (head_read, k, fits, f) refl
 
@@ -107,3 +111,23 @@ no_front (Err e) = refl
 pub force_starts : (place : Place) (force : Option State) → force ≡ force_after place force (heads_of [])
 unfolding heads_of
 force_starts place force = refl
+
+-- ---- what is in force in a block that is read
+
+least_size : (s : State) → IsState s → 8 ≤ s.block_size
+unfolding ruled
+least_size s h = leb-true 8 s.block_size (first_of (leb 8 s.block_size) (leb s.block_size s.unit_frames) (rule_holds _ 0 h.block_size.meets.1))
+  where
+    first_of : (a b : Bool) → (a && b) ≡ true → a ≡ true
+    first_of true b e = refl
+    first_of false b e = absurd cc
+
+-- without anything in force no frames are read
+pub least_frames : (place : Place) (force : Option State) (l : State → Layout (List FrameCode)) (all : List Bool) (q r : ℕ) (fs : List FrameCode) → IfSome force (λ s. FitsPlace place s) → (against force l).read all q ≡ Ok (fs, r) → 8 ≤ block_size_in force
+unfolding against never
+least_frames place None l all q r fs h e = absurd cc
+least_frames place (Some s) l all q r fs h e = least_size s h.lawful
+
+pub are_lawful : (place : Place) (force : Option State) → IfSome force (λ s. FitsPlace place s) → IfSome force (λ s. IsState s)
+are_lawful place None h = tt
+are_lawful place (Some s) h = h.lawful

@@ -3,7 +3,6 @@ use Rattle.std.proofs.Common.{◌≡◌, ℕ, zero, suc, ◌+◌, ◌≤◌, Boo
 use Rattle.std.proofs.lemmas.List.{length-append, take_at, drop_at}
 use Rattle.mlp_syntax.specs.declared.major.Kind.{Kind}
 use Rattle.mlp_syntax.specs.declared.fault.Field.TheVariants as rule
-use Rattle.mlp_syntax.specs.declared.segment.FrameCode.{FrameCode}
 use Rattle.mlp_syntax.specs.declared.segment.Segment.{Segment}
 use Rattle.mlp_bits.specs.Bits.{bits}
 use Rattle.mlp_bits.proofs.BitLists.{length-bits}
@@ -60,13 +59,13 @@ some_bits {S} {A} value after (suc n) s (x ∷ xs) fits = long ((value s).spelli
     long : (a b c : List Bool) → 1 ≤ length b → 1 ≤ length (a ++ (b ++ c))
     long a b c h = omega (arith, length-append a (b ++ c), length-append b c)
 
-module _ (frames : State → ℕ → Layout (List FrameCode)) (frames_are : (s : State) (n : ℕ) → IsLayout (frames s n)) (frames_count : (s : State) (n : ℕ) (fs : List FrameCode) → (frames s n).Fits fs → length fs ≡ n) (place : Place) where
-  blocks_fit : (known : Known) (n : ℕ) (at : At) (bs : List Block) → (up_to_last (block frames place known) (after_block place) rule.BlockOverrun n at).Fits bs → AllFramesFit bs
+module _ (place : Place) where
+  blocks_fit : (known : Known) (n : ℕ) (at : At) (bs : List Block) → (up_to_last (block place known) (after_block place) rule.BlockOverrun n at).Fits bs → AllFramesFit bs
   unfolding up_to_last never item part chosen AllFramesFit
   blocks_fit known zero at bs fits = absurd fits
   blocks_fit known (suc n) at [] fits = absurd fits
-  blocks_fit known (suc n) at (b ∷ []) fits = (block_fits frames frames_are frames_count place known at b fits.0, tt)
-  blocks_fit known (suc n) at (b ∷ c ∷ bs) fits = (block_fits frames frames_are frames_count place known at b fits.0, blocks_fit known n (after_block place at b) (c ∷ bs) fits.1.1)
+  blocks_fit known (suc n) at (b ∷ []) fits = (block_fits place known at b fits.0, tt)
+  blocks_fit known (suc n) at (b ∷ c ∷ bs) fits = (block_fits place known at b fits.0, blocks_fit known n (after_block place at b) (c ∷ bs) fits.1.1)
 
   whole_record : List Block → Bool → ℕ → Option ℕ → Segment
   whole_record bs checked padding t = record { blocks = record { items = heads_of bs }; codes = record { items = codes_of bs }; padding = padding; terminator = t; checked = checked }
@@ -89,38 +88,38 @@ module _ (frames : State → ℕ → Layout (List FrameCode)) (frames_are : (s :
   unfolding the_rest
   rest_is bs checked = placed_is (λ here. part_tail_is (λ s. s.padding) (number_of_is (padding_width here)) (end_is bs checked) (padding_set bs checked (padding_width here)))
 
-  nested_set : (known : Known) (at : At) (checked : Bool) (bs : List Block) (here : ℕ) (s : Segment) → (up_to_last (block frames place known) (after_block place) rule.BlockOverrun most_blocks at).Fits bs → (the_rest bs checked).Fits here s → nested s.blocks.items s.codes.items ≡ bs
+  nested_set : (known : Known) (at : At) (checked : Bool) (bs : List Block) (here : ℕ) (s : Segment) → (up_to_last (block place known) (after_block place) rule.BlockOverrun most_blocks at).Fits bs → (the_rest bs checked).Fits here s → nested s.blocks.items s.codes.items ≡ bs
   unfolding the_rest the_end whole_record ending placed part_tail
   nested_set known at checked bs here s h fits =
       let heads : s.blocks.items ≡ heads_of bs = ap (λ (r : Segment). r.blocks.items) (sym fits.1.1) in
       let codes : s.codes.items ≡ codes_of bs = ap (λ (r : Segment). r.codes.items) (sym fits.1.1) in
       rw (heads, codes) (nested-flat bs (blocks_fit known most_blocks at bs h))
 
-  pub segment_tail_is : (known : Known) (at : At) (checked : Bool) → IsTail (segment_tail frames place known at checked)
+  pub segment_tail_is : (known : Known) (at : At) (checked : Bool) → IsTail (segment_tail place known at checked)
   unfolding segment_tail the_rest the_end whole_record
   segment_tail_is known at checked =
-      part_tail_is (λ s. nested s.blocks.items s.codes.items) (up_to_last_is (block frames place known) (after_block place) rule.BlockOverrun (block_is frames frames_are frames_count place known) most_blocks at)
+      part_tail_is (λ s. nested s.blocks.items s.codes.items) (up_to_last_is (block place known) (after_block place) rule.BlockOverrun (block_is place known) most_blocks at)
       (λ bs. rest_is bs checked) (nested_set known at checked)
 
-  segment_long : (known : Known) (at : At) (checked : Bool) (s : Segment) → (segment_tail frames place known at checked).Fits 0 s → 16 ≤ length ((segment_tail frames place known at checked).spelling 0 s)
+  segment_long : (known : Known) (at : At) (checked : Bool) (s : Segment) → (segment_tail place known at checked).Fits 0 s → 16 ≤ length ((segment_tail place known at checked).spelling 0 s)
   unfolding segment_tail part_tail placed number_of
   segment_long known at checked s fits =
-      let l = up_to_last (block frames place known) (after_block place) rule.BlockOverrun most_blocks at in
+      let l = up_to_last (block place known) (after_block place) rule.BlockOverrun most_blocks at in
       let text = l.spelling (nested s.blocks.items s.codes.items) in
-      let some = some_bits (block frames place known) (after_block place) most_blocks at (nested s.blocks.items s.codes.items) fits.0 in
+      let some = some_bits (block place known) (after_block place) most_blocks at (nested s.blocks.items s.codes.items) fits.0 in
       aligned text (bits (padding_width (0 + length text)) s.padding) _ some (length-bits (padding_width (0 + length text)) s.padding)
     where
       aligned : (text padding last : List Bool) → 1 ≤ length text → length padding ≡ padding_width (0 + length text) → 16 ≤ length (text ++ (padding ++ last))
       aligned text padding last h k = omega (arith, length-append text (padding ++ last), length-append padding last)
 
-  pub segment_text_is : (known : Known) (force : Option State) (checked : Bool) → IsWhole (segment_text frames place known force checked)
+  pub segment_text_is : (known : Known) (force : Option State) (checked : Bool) → IsWhole (segment_text place known force checked)
   unfolding segment_text
   segment_text_is known force checked = judged_at_end_is (end_rules known place.unit_frames) (whole_text_is (segment_tail_is known (record { force = force; so_far = 0; due = place.major }) checked))
 
-  text_long : (known : Known) (force : Option State) (checked : Bool) (s : Segment) → (segment_text frames place known force checked).Fits s → 16 ≤ length ((segment_text frames place known force checked).spelling s)
+  text_long : (known : Known) (force : Option State) (checked : Bool) (s : Segment) → (segment_text place known force checked).Fits s → 16 ≤ length ((segment_text place known force checked).spelling s)
   unfolding segment_text judged_at_end whole_text
   text_long known force checked s fits = segment_long known (record { force = force; so_far = 0; due = place.major }) checked s fits
 
-  pub segment_is : (known : Known) (force : Option State) (checked : Bool) → IsWhole (segment frames place known force checked)
+  pub segment_is : (known : Known) (force : Option State) (checked : Bool) → IsWhole (segment place known force checked)
   unfolding segment
   segment_is known force checked = chosen_whole_is checked (λ e. checked_first_is parity_of check_of parity_small check_small (text_long known force true) (segment_text_is known force true)) (λ e. segment_text_is known force false)

@@ -1,5 +1,5 @@
 -- The blocks of a segment, each against what is in force behind those before it.
-use Rattle.std.specs.Prelude.{◌≡◌, ◌≤◌, ℕ, ◌+◌, nat_le, ◌&&◌, Bool, true, false, List, [], ◌∷◌, drop, Option, Some, None, is_some, option_map}
+use Rattle.std.specs.Prelude.{◌≡◌, ◌≤◌, ℕ, ◌+◌, nat_le, Bool, true, false, List, [], ◌∷◌, Option, Some, None, is_some, option_map}
 use Rattle.mlp_syntax.specs.declared.fault.Field.TheVariants as rule
 use Rattle.mlp_syntax.specs.declared.restart.Restart.{Restart}
 use Rattle.mlp_syntax.specs.declared.params.Params.{Params}
@@ -7,12 +7,12 @@ use Rattle.mlp_syntax.specs.declared.segment.BlockHead.{BlockHead}
 use Rattle.mlp_syntax.specs.declared.segment.FrameCode.{FrameCode}
 use Rattle.mlp_layout.specs.Layout.{Layout, tested, never, part, made}
 use Rattle.mlp_layout.specs.Combined.{present}
-use Rattle.mlp_params.specs.declared.state.ChannelState.{ChannelState}
 use Rattle.mlp_params.specs.declared.state.State.{State}
 use Rattle.mlp_params.specs.Parameters.{params}
 use Rattle.mlp_params.specs.InForce.{in_force}
 use Rattle.mlp_params.specs.Applied.{applied}
 use Rattle.mlp_params.specs.States.{IsState}
+use Rattle.mlp_residual.specs.Frames.{steps_fit, frames_of}
 use Rattle.mlp_substream.specs.declared.known.Place.{Place}
 use Rattle.mlp_substream.specs.declared.known.Known.{Known}
 use Rattle.mlp_substream.specs.Restarts.{flags, judged_restart}
@@ -48,14 +48,9 @@ block_size_in None = 0
 block_size_in (Some s) = s.block_size
 
 -- each channel that the substream codes has at least as many low bits as its step
-abbrev pub steps_below : List ℕ → List ChannelState → Bool
-steps_below [] channels = true
-steps_below (step ∷ steps) [] = true
-steps_below (step ∷ steps) (c ∷ channels) = nat_le step c.low && steps_below steps channels
-
-abbrev pub steps_fit : Option State → Bool
-steps_fit None = true
-steps_fit (Some s) = steps_below (drop s.restart.min s.steps.items) (drop s.restart.min s.channels.items)
+abbrev pub steps_fit_in : Option State → Bool
+steps_fit_in None = true
+steps_fit_in (Some s) = steps_fit s
 
 -- ---- a block
 
@@ -80,15 +75,13 @@ behind_flags place known force f =
 unfoldable pub head : Place → Known → Bool → Option State → Layout BlockHead
 head place known due force = part (flags due) (λ h. (is_some h.params, is_some h.restart)) (behind_flags place known force)
 
--- so many frames by what is in force
-module _ (frames : State → ℕ → Layout (List FrameCode)) where
-  unfoldable pub block : Place → Known → At → Layout Block
-  block place known at =
-      part (head place known at.due at.force) (λ b. b.head) (λ h.
-      tested rule.StepTooLarge (steps_fit (after_head place at.force h))
-      (tested rule.BlockOverrun (nat_le (at.so_far + h.frames) place.unit_frames)
-      (part (against (after_head place at.force h) (λ s. frames s h.frames)) (λ b. b.frames) (λ codes.
-      made (record { head = h; frames = codes })))))
+unfoldable pub block : Place → Known → At → Layout Block
+block place known at =
+    part (head place known at.due at.force) (λ b. b.head) (λ h.
+    tested rule.StepTooLarge (steps_fit_in (after_head place at.force h))
+    (tested rule.BlockOverrun (nat_le (at.so_far + h.frames) place.unit_frames)
+    (part (against (after_head place at.force h) (λ s. frames_of s h.frames)) (λ b. b.frames) (λ codes.
+    made (record { head = h; frames = codes })))))
 
 abbrev pub after_block : Place → At → Block → At
 after_block place at b = record { force = after_head place at.force b.head; so_far = at.so_far + b.head.frames; due = false }

@@ -73,10 +73,10 @@ end_rules known unit all s = end_fault (same_end known.first s) (frames_fit know
 abbrev pub most_blocks : ℕ
 most_blocks = 21
 
-module _ (frames : State → ℕ → Layout (List FrameCode)) (place : Place) where
+module _ (place : Place) where
   unfoldable pub segment_tail : Known → At → Bool → Tail Segment
   segment_tail known at checked =
-      part_tail (up_to_last (block frames place known) (after_block place) rule.BlockOverrun most_blocks at) (λ s. nested s.blocks.items s.codes.items) (λ bs.
+      part_tail (up_to_last (block place known) (after_block place) rule.BlockOverrun most_blocks at) (λ s. nested s.blocks.items s.codes.items) (λ bs.
       placed (λ here.
       part_tail (number_of (padding_width here)) (λ s. s.padding) (λ padding.
       ending rule.SegmentEnd 32 (terminator place.format) (λ s. s.terminator) (λ terminator.
@@ -89,3 +89,7 @@ module _ (frames : State → ℕ → Layout (List FrameCode)) (place : Place) wh
   -- a segment against what is in force at its start; checks are tried before its fields are read
   unfoldable pub segment : Known → Option State → Bool → Whole Segment
   segment known force checked = chosen_whole checked (checked_first parity_of check_of (segment_text known force true)) (segment_text known force false)
+
+-- nothing is known from elsewhere
+abbrev pub unknown : Known
+unknown = record { max_matrix = None; covered = None; lossless = None; first = None }

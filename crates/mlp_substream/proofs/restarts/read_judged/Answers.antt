@@ -1,4 +1,4 @@
-use Rattle.std.proofs.Common.{◌≡◌, ◌≤◌, sym, ◌∙◌, arith}
+use Rattle.std.proofs.Common.{sym, ◌∙◌, arith}
 use Rattle.std.proofs.lemmas.Result.{err_from_is_err_and}
 use Rattle.mlp_layout.proofs.RuleReading.{under_err, under_ok, under_fails}
 use Rattle.mlp_params.specs.RestartHeader.{restart}

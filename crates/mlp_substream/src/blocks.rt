@@ -1,0 +1,129 @@
+//! Reading the blocks of a segment.
+ghost use Rattle.std.specs.Prelude.{◌≡◌, ◌+◌, ◌≤◌, ◌<◌, ◌++◌, [], ℕ, List, Ok, Err, IfOk, OnOk, IfSome, MatchResult, Option, true, length, drop};
+ghost use Rattle.arrayvec.specs.ArrayVec.{array_vec_len};
+ghost use Rattle.mlp_syntax.specs.declared.segment.FrameCode.{FrameCode};
+ghost use Rattle.mlp_syntax.specs.declared.fault.Field.TheVariants.{BlockOverrun};
+ghost use Rattle.mlp_layout.specs.Combined.{up_to_last};
+ghost use Rattle.mlp_params.specs.States.{IsState};
+ghost use Rattle.mlp_residual.specs.Frames.{frames_of, steps_below, GivesBehind};
+ghost use Rattle.mlp_substream.specs.Blocks.{against, steps_fit_in, after_head, block, after_block, force_after, At, Block, FitsPlace, IsPlace};
+ghost use Rattle.mlp_substream.specs.Segment.{heads_of, codes_of, most_blocks};
+
+use crate::heads::read_head;
+use crate::known::{Known, Place};
+use arrayvec::ArrayVec;
+use mlp_bits::BitReader;
+use mlp_layout::{broken, flag};
+use mlp_params::{ChannelState, State};
+use mlp_residual::read_frames;
+use mlp_syntax::{BlockHead, Broken, Field, FrameCode, Segment};
+
+/// Whether each channel from one on has at least as many low bits as its step.
+fn steps_below(least: usize, steps: &[u8], channels: &[ChannelState]) -> bool
+    ensures { result ≡ steps_below (drop least steps.now) (drop least channels.now) }
+{
+    for i in least..steps.len() {
+        if i >= channels.len() {
+            return true;
+        }
+        if steps[i] > channels[i].low {
+            return false;
+        }
+    }
+    true
+}
+
+/// Whether each channel that the substream codes has at least as many low bits as its step.
+fn steps_fit(state: &Option<State>) -> bool
+    ensures { result ≡ steps_fit_in state.now }
+{
+    match state {
+        None => true,
+        Some(state) => steps_below(state.restart.min as usize, &state.steps, &state.channels),
+    }
+}
+
+/// So many frames, by what is in force, behind those that are there.
+#[tactic(auto, unfolding(mlp_layout::specs::Layout::never, crate::specs::Blocks::against))]
+fn read_codes(
+    state: &Option<State>,
+    count: u16,
+    r: &mut BitReader,
+    codes: &mut ArrayVec<FrameCode, 160>,
+) -> Result<(), Broken>
+    requires state { IfSome state.now (λ s. IsState s) }
+    requires steps { steps_fit_in state.now ≡ true }
+    requires room { array_vec_len codes.old + count ≤ 160 }
+    ensures count { OnOk result (length codes.new.items ≡ length codes.old.items + count) }
+    ensures read { GivesBehind codes.old.items codes.new.items r.old r.new result ((against state.now (λ s. frames_of s count)).read r.old.all r.old.place) }
+{
+    match state {
+        None => Err(broken(Field::RestartMissing, r.place())),
+        Some(state) => read_frames(state, count, r, codes),
+    }
+}
+
+/// A block. What its head gives is put in force, and its frames stand behind those that are there.
+fn read_block(
+    place: &Place,
+    known: &Known,
+    due: bool,
+    state: &mut Option<State>,
+    r: &mut BitReader,
+    codes: &mut ArrayVec<FrameCode, 160>,
+) -> Result<BlockHead, Broken>
+    requires place { IsPlace place.now }
+    requires state { IfSome state.old (λ s. FitsPlace place.now s) }
+    ensures read { MatchResult result
+        (λ h. (fs : List FrameCode) × ((block place.now known.now (record { force = state.old; so_far = length codes.old.items; due = due })).read r.old.all r.old.place ≡ Ok (record { head = h; frames = fs }, r.new.place))
+        × (codes.new.items ≡ codes.old.items ++ fs))
+        (λ e. (block place.now known.now (record { force = state.old; so_far = length codes.old.items; due = due })).read r.old.all r.old.place ≡ Err e) }
+    ensures moved { OnOk result ((r.new.all ≡ r.old.all) × (r.old.place ≤ r.new.place)) }
+    ensures force { IfOk result (λ h. state.new ≡ after_head place.now state.old h) }
+    ensures state { OnOk result (IfSome state.new (λ s. FitsPlace place.now s)) }
+    ensures count { IfOk result (λ h. (length codes.new.items ≡ length codes.old.items + h.frames) × (8 ≤ h.frames) × (length codes.new.items ≤ place.now.unit_frames)) }
+{
+    let head = read_head(place, known, due, state, r)?;
+    let at = r.place();
+    if !steps_fit(state) {
+        return Err(broken(Field::StepTooLarge, at));
+    }
+    if codes.len() + usize::from(head.frames) > usize::from(place.unit_frames) {
+        return Err(broken(Field::BlockOverrun, at));
+    }
+    read_codes(state, head.frames, r, codes)?;
+    Ok(head)
+}
+
+/// The blocks up to the last one.
+pub fn read_blocks(
+    place: &Place,
+    known: &Known,
+    state: &mut Option<State>,
+    r: &mut BitReader,
+    out: &mut Segment,
+) -> Result<(), Broken>
+    requires place { IsPlace place.now }
+    requires state { IfSome state.old (λ s. FitsPlace place.now s) }
+    requires blocks { out.old.blocks.items ≡ [] }
+    requires codes { out.old.codes.items ≡ [] }
+    ensures read { MatchResult result
+        (λ _. (bs : List Block) × ((up_to_last (block place.now known.now) (after_block place.now) BlockOverrun most_blocks (record { force = state.old; so_far = 0; due = place.now.major })).read r.old.all r.old.place ≡ Ok (bs, r.new.place))
+        × (out.new ≡ record out.old { blocks = record { items = heads_of bs }; codes = record { items = codes_of bs } })
+        × (state.new ≡ force_after place.now state.old (heads_of bs)))
+        (λ e. (up_to_last (block place.now known.now) (after_block place.now) BlockOverrun most_blocks (record { force = state.old; so_far = 0; due = place.now.major })).read r.old.all r.old.place ≡ Err e) }
+    ensures moved { OnOk result ((r.new.all ≡ r.old.all) × (r.old.place ≤ r.new.place)) }
+    ensures state { OnOk result (IfSome state.new (λ s. FitsPlace place.now s)) }
+{
+    let mut due = place.major;
+    for _ in 0..21u32 {
+        let head = read_block(place, known, due, state, r, &mut out.codes)?;
+        out.blocks.push(head);
+        let last = flag(r)?;
+        if last {
+            return Ok(());
+        }
+        due = false;
+    }
+    Err(broken(Field::BlockOverrun, r.place()))
+}
