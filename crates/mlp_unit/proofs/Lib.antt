@@ -6,3 +6,5 @@ pub mod DirectoryRules
 pub mod FrameLaws
 pub mod WordTexts
 pub mod WrittenLaws
+pub mod OutlineLaws
+pub mod RoundTrip

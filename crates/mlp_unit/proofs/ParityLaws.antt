@@ -22,7 +22,7 @@ small-take n bytes small i = elim (cases_lt i n) [
   | inr le ↦ rw (get_or_past (take n bytes) i 0 (omega (arith, length-take n bytes))) (omega arith)
 ]
 
-four_bits : (x : ℕ) (rest : List Bool) → half_byte_sum (bits 4 x ++ rest) ≡ bit_xor (x % 16) (half_byte_sum rest)
+pub four_bits : (x : ℕ) (rest : List Bool) → half_byte_sum (bits 4 x ++ rest) ≡ bit_xor (x % 16) (half_byte_sum rest)
 unfolding bits half_byte_sum
 four_bits x rest = ap (λ (n : ℕ). bit_xor n (half_byte_sum rest)) (number-bits 4 x)
 

@@ -116,7 +116,7 @@ unlike_still (e ∷ es) more some fits unlike = by_extra e.extra refl
 
 -- ---- the parity
 
-half_small : (t : List Bool) → half_byte_sum t < 16
+pub half_small : (t : List Bool) → half_byte_sum t < 16
 unfolding half_byte_sum
 half_small [] = omega arith
 half_small (a ∷ []) = omega arith
@@ -141,7 +141,7 @@ marked_right entries body (Some m) w =
     let room : leb 4 (unit_size (Some m) entries body / 2) ≡ true = le-leb _ _ (omega arith) in
     sym (ap (λ (b : Bool). b && next_is 31 sync (text_behind (Some m) entries body)) room ∙ ap (λ (n : ℕ). eqb n sync) (sync_begins None m ((directory (length entries)).spelling entries ++ bits_of body) w.major_fits))
 
-twice : (major : Option MajorSync) (entries : List DirEntry) (body : List ℕ) → Writable major entries body → 2 * (unit_size major entries body / 2) ≡ unit_size major entries body
+pub twice : (major : Option MajorSync) (entries : List DirEntry) (body : List ℕ) → Writable major entries body → 2 * (unit_size major entries body / 2) ≡ unit_size major entries body
 twice major entries body w = omega (arith, major_even major w.major_fits, directory_even entries, w.whole_words)
 
 module _ (first : Option MajorSync) (timing : ℕ) (major : Option MajorSync) (entries : List DirEntry) (body : List ℕ) (w : Writable major entries body) (count : substreams_of (in_force first major) ≡ length entries) where

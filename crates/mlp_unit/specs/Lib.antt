@@ -3,3 +3,4 @@ pub mod AccessUnit
 pub mod Frame
 pub mod Shape
 pub mod Written
+pub mod Outline

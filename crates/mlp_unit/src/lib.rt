@@ -14,3 +14,6 @@ pub use head::frame;
 pub use outer::read_outer;
 pub use segment::segment_range;
 pub use writing::write_unit;
+
+#[cfg(test)]
+mod tests;
