@@ -3,6 +3,7 @@
 //! A residual is coded as a symbol of a codebook and low bits behind it, or as low bits alone.
 #![tactic(auto)]
 
+mod block;
 mod coding;
 mod count;
 mod frames;
@@ -10,9 +11,13 @@ mod in_force;
 mod laws;
 mod writing;
 
+pub use block::{ResidualCoding, residuals};
 pub use coding::{code_of, residual};
 pub use count::bits_of;
 pub use frames::{ChannelCode, Coding, read_coded};
 pub use in_force::{coding_in_force, read_frames};
 pub use laws::{law_codes, law_frames};
 pub use writing::{write_coded, write_frames};
+
+#[cfg(test)]
+mod tests;
