@@ -123,11 +123,11 @@ least_size s h = leb-true 8 s.block_size (first_of (leb 8 s.block_size) (leb s.b
     first_of false b e = absurd cc
 
 -- without anything in force no frames are read
-pub least_frames : (place : Place) (force : Option State) (l : State → Layout (List FrameCode)) (all : List Bool) (q r : ℕ) (fs : List FrameCode) → IfSome force (λ s. FitsPlace place s) → (against force l).read all q ≡ Ok (fs, r) → 8 ≤ block_size_in force
+pub least_frames : (place : Place) (force : Option State) (l : State → Layout (List FrameCode)) (all : List Bool) (q r : ℕ) (fs : List FrameCode) → IfSome force (λ s. FitsPlace place.format place.unit_frames s) → (against force l).read all q ≡ Ok (fs, r) → 8 ≤ block_size_in force
 unfolding against never
 least_frames place None l all q r fs h e = absurd cc
 least_frames place (Some s) l all q r fs h e = least_size s h.lawful
 
-pub are_lawful : (place : Place) (force : Option State) → IfSome force (λ s. FitsPlace place s) → IfSome force (λ s. IsState s)
+pub are_lawful : (place : Place) (force : Option State) → IfSome force (λ s. FitsPlace place.format place.unit_frames s) → IfSome force (λ s. IsState s)
 are_lawful place None h = tt
 are_lawful place (Some s) h = h.lawful

@@ -1,6 +1,7 @@
 -- The blocks of a segment, each against what is in force behind those before it.
 use Rattle.std.specs.Prelude.{◌≡◌, ◌≤◌, ℕ, ◌+◌, nat_le, Bool, true, false, List, [], ◌∷◌, Option, Some, None, is_some, option_map}
 use Rattle.mlp_syntax.specs.declared.fault.Field.TheVariants as rule
+use Rattle.mlp_syntax.specs.declared.major.Kind.{Kind}
 use Rattle.mlp_syntax.specs.declared.restart.Restart.{Restart}
 use Rattle.mlp_syntax.specs.declared.params.Params.{Params}
 use Rattle.mlp_syntax.specs.declared.segment.BlockHead.{BlockHead}
@@ -86,12 +87,12 @@ block place known at =
 abbrev pub after_block : Place → At → Block → At
 after_block place at b = record { force = after_head place at.force b.head; so_far = at.so_far + b.head.frames; due = false }
 
--- ---- what can be in force in a segment that stands here
+-- ---- what can be in force in a stream of this kind with so many frames in a unit
 
-pub record FitsPlace (place : Place) (s : State) : Type 0 where
+pub record FitsPlace (format : Kind) (unit_frames : ℕ) (s : State) : Type 0 where
   pub lawful : IsState s
-  pub format : s.format ≡ place.format
-  pub unit_frames : s.unit_frames ≡ place.unit_frames
+  pub format_is : s.format ≡ format
+  pub frames_are : s.unit_frames ≡ unit_frames
 
 -- a unit has frames for a block, and at most 160
 pub record IsPlace (place : Place) : Type 0 where

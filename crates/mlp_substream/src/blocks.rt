@@ -73,14 +73,14 @@ fn read_block(
     codes: &mut ArrayVec<FrameCode, 160>,
 ) -> Result<BlockHead, Broken>
     requires place { IsPlace place.now }
-    requires state { IfSome state.old (λ s. FitsPlace place.now s) }
+    requires state { IfSome state.old (λ s. FitsPlace place.now.format place.now.unit_frames s) }
     ensures read { MatchResult result
         (λ h. (fs : List FrameCode) × ((block place.now known.now (record { force = state.old; so_far = length codes.old.items; due = due })).read r.old.all r.old.place ≡ Ok (record { head = h; frames = fs }, r.new.place))
         × (codes.new.items ≡ codes.old.items ++ fs))
         (λ e. (block place.now known.now (record { force = state.old; so_far = length codes.old.items; due = due })).read r.old.all r.old.place ≡ Err e) }
     ensures moved { OnOk result ((r.new.all ≡ r.old.all) × (r.old.place ≤ r.new.place)) }
     ensures force { IfOk result (λ h. state.new ≡ after_head place.now state.old h) }
-    ensures state { OnOk result (IfSome state.new (λ s. FitsPlace place.now s)) }
+    ensures state { OnOk result (IfSome state.new (λ s. FitsPlace place.now.format place.now.unit_frames s)) }
     ensures count { IfOk result (λ h. (length codes.new.items ≡ length codes.old.items + h.frames) × (8 ≤ h.frames) × (length codes.new.items ≤ place.now.unit_frames)) }
 {
     let head = read_head(place, known, due, state, r)?;
@@ -104,7 +104,7 @@ pub fn read_blocks(
     out: &mut Segment,
 ) -> Result<(), Broken>
     requires place { IsPlace place.now }
-    requires state { IfSome state.old (λ s. FitsPlace place.now s) }
+    requires state { IfSome state.old (λ s. FitsPlace place.now.format place.now.unit_frames s) }
     requires blocks { out.old.blocks.items ≡ [] }
     requires codes { out.old.codes.items ≡ [] }
     ensures read { MatchResult result
@@ -113,7 +113,7 @@ pub fn read_blocks(
         × (state.new ≡ force_after place.now state.old (heads_of bs)))
         (λ e. (up_to_last (block place.now known.now) (after_block place.now) BlockOverrun most_blocks (record { force = state.old; so_far = 0; due = place.now.major })).read r.old.all r.old.place ≡ Err e) }
     ensures moved { OnOk result ((r.new.all ≡ r.old.all) × (r.old.place ≤ r.new.place)) }
-    ensures state { OnOk result (IfSome state.new (λ s. FitsPlace place.now s)) }
+    ensures state { OnOk result (IfSome state.new (λ s. FitsPlace place.now.format place.now.unit_frames s)) }
 {
     let mut due = place.major;
     for _ in 0..21u32 {

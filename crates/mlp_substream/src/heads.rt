@@ -38,9 +38,9 @@ fn read_restart_if(
 fn restart_at(place: &Place, header: &Option<Restart>, state: &mut Option<State>)
     requires place { IsPlace place.now }
     requires header { IfSome header.now (λ h. Allowed (restart place.now.format) h) }
-    requires state { IfSome state.old (λ s. FitsPlace place.now s) }
+    requires state { IfSome state.old (λ s. FitsPlace place.now.format place.now.unit_frames s) }
     ensures value { state.new ≡ restarted place.now state.old header.now }
-    ensures state { IfSome state.new (λ s. FitsPlace place.now s) }
+    ensures state { IfSome state.new (λ s. FitsPlace place.now.format place.now.unit_frames s) }
 {
     if let Some(header) = header {
         *state = Some(State::at_restart(place.format, place.unit_frames, header));
@@ -71,9 +71,9 @@ fn read_params_if(
 /// Puts parameters in force.
 fn apply_if(place: &Place, written: &Option<Params>, state: &mut Option<State>)
     requires written { IfSome written.now (λ p. IfSome state.old (λ s. Allowed (params s) p)) }
-    requires state { IfSome state.old (λ s. FitsPlace place.now s) }
+    requires state { IfSome state.old (λ s. FitsPlace place.now.format place.now.unit_frames s) }
     ensures value { state.new ≡ option_map (given written.now) state.old }
-    ensures state { IfSome state.new (λ s. FitsPlace place.now s) }
+    ensures state { IfSome state.new (λ s. FitsPlace place.now.format place.now.unit_frames s) }
 {
     if let (Some(params), Some(state)) = (written, state) {
         apply(state, params);
@@ -99,11 +99,11 @@ pub fn read_head(
     r: &mut BitReader,
 ) -> Result<BlockHead, Broken>
     requires place { IsPlace place.now }
-    requires state { IfSome state.old (λ s. FitsPlace place.now s) }
+    requires state { IfSome state.old (λ s. FitsPlace place.now.format place.now.unit_frames s) }
     ensures read { Gives (λ x. x) r.old r.new result ((head place.now known.now due state.old).read r.old.all r.old.place) }
     ensures force { IfOk result (λ h. state.new ≡ after_head place.now state.old h) }
     ensures frames { IfOk result (λ h. h.frames ≡ block_size_in state.new) }
-    ensures state { IfOk result (λ h. IfSome state.new (λ s. FitsPlace place.now s)) }
+    ensures state { IfOk result (λ h. IfSome state.new (λ s. FitsPlace place.now.format place.now.unit_frames s)) }
 {
     let (given, restarts) = read_flags(due, r)?;
     let restart = read_restart_if(restarts, known, place.format, r)?;

@@ -13,6 +13,8 @@ mod known;
 pub mod laws;
 mod restarts;
 mod segment;
+#[cfg(test)]
+mod tests;
 
 pub use known::{Ending, Known, Place};
 pub use segment::{read_segment, read_segment_into};

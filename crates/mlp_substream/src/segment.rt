@@ -24,14 +24,14 @@ fn read_fields(
 ) -> Result<(), Broken>
     requires size { length bytes.now ≤ 8190 }
     requires place { IsPlace place.now }
-    requires state { IfSome state.old (λ s. FitsPlace place.now s) }
+    requires state { IfSome state.old (λ s. FitsPlace place.now.format place.now.unit_frames s) }
     requires blocks { out.old.blocks.items ≡ [] }
     requires codes { out.old.codes.items ≡ [] }
     ensures read { MatchResult result
         (λ _. (whole_text (segment_tail place.now known.now (record { force = state.old; so_far = 0; due = place.now.major }) out.old.checked)).read (bits_of bytes.now) ≡ Ok out.new)
         (λ e. (whole_text (segment_tail place.now known.now (record { force = state.old; so_far = 0; due = place.now.major }) out.old.checked)).read (bits_of bytes.now) ≡ Err e) }
     ensures force { OnOk result (state.new ≡ force_after place.now state.old out.new.blocks.items) }
-    ensures state { OnOk result (IfSome state.new (λ s. FitsPlace place.now s)) }
+    ensures state { OnOk result (IfSome state.new (λ s. FitsPlace place.now.format place.now.unit_frames s)) }
 {
     let mut r = BitReader::new(bytes);
     read_blocks(place, known, state, &mut r, out)?;
@@ -53,14 +53,14 @@ fn read_text(
 ) -> Result<(), Broken>
     requires size { length bytes.now ≤ 8190 }
     requires place { IsPlace place.now }
-    requires state { IfSome state.old (λ s. FitsPlace place.now s) }
+    requires state { IfSome state.old (λ s. FitsPlace place.now.format place.now.unit_frames s) }
     requires blocks { out.old.blocks.items ≡ [] }
     requires codes { out.old.codes.items ≡ [] }
     ensures read { MatchResult result
         (λ _. (segment_text place.now known.now state.old out.old.checked).read (bits_of bytes.now) ≡ Ok out.new)
         (λ e. (segment_text place.now known.now state.old out.old.checked).read (bits_of bytes.now) ≡ Err e) }
     ensures force { OnOk result (state.new ≡ force_after place.now state.old out.new.blocks.items) }
-    ensures state { OnOk result (IfSome state.new (λ s. FitsPlace place.now s)) }
+    ensures state { OnOk result (IfSome state.new (λ s. FitsPlace place.now.format place.now.unit_frames s)) }
 {
     read_fields(place, known, state, bytes, out)?;
     match end_fault(known, place.unit_frames, bytes.len() as u32 * 8, out) {
@@ -103,12 +103,12 @@ pub fn read_segment_into(
 ) -> Result<(), Broken>
     requires size { length bytes.now ≤ 8190 }
     requires place { IsPlace place.now }
-    requires state { IfSome state.old (λ s. FitsPlace place.now s) }
+    requires state { IfSome state.old (λ s. FitsPlace place.now.format place.now.unit_frames s) }
     ensures read { MatchResult result
         (λ _. (segment place.now known.now state.old checked).read (bits_of bytes.now) ≡ Ok out.new)
         (λ e. (segment place.now known.now state.old checked).read (bits_of bytes.now) ≡ Err e) }
     ensures force { OnOk result (state.new ≡ force_after place.now state.old out.new.blocks.items) }
-    ensures state { OnOk result (IfSome state.new (λ s. FitsPlace place.now s)) }
+    ensures state { OnOk result (IfSome state.new (λ s. FitsPlace place.now.format place.now.unit_frames s)) }
 {
     out.blocks.clear();
     out.codes.clear();
@@ -134,12 +134,12 @@ pub fn read_segment(
 ) -> Result<Segment, Broken>
     requires size { length bytes.now ≤ 8190 }
     requires place { IsPlace place.now }
-    requires state { IfSome state.old (λ s. FitsPlace place.now s) }
+    requires state { IfSome state.old (λ s. FitsPlace place.now.format place.now.unit_frames s) }
     ensures read { MatchResult result
         (λ s. (segment place.now unknown state.old checked).read (bits_of bytes.now) ≡ Ok s)
         (λ e. (segment place.now unknown state.old checked).read (bits_of bytes.now) ≡ Err e) }
     ensures force { IfOk result (λ s. state.new ≡ force_after place.now state.old s.blocks.items) }
-    ensures state { OnOk result (IfSome state.new (λ s. FitsPlace place.now s)) }
+    ensures state { OnOk result (IfSome state.new (λ s. FitsPlace place.now.format place.now.unit_frames s)) }
 {
     let known = Known {
         max_matrix: None,

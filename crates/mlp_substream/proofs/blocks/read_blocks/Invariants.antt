@@ -23,7 +23,7 @@ pub record SoFar (place : Place) (known : Known) (i : ℕ) (state first : Option
   pub count : length out.blocks.items ≡ i
   pub least : 8 * i ≤ length out.codes.items
   pub most : length out.codes.items ≤ place.unit_frames
-  pub state_is : IfSome state (λ s. FitsPlace place s)
+  pub state_is : IfSome state (λ s. FitsPlace place.format place.unit_frames s)
   pub same_bits : r.all ≡ start.all
   pub moved : start.place ≤ r.place
 

@@ -1,0 +1,113 @@
+//! Segments of a silent stereo stream at 48 kHz, by bytes that were worked out by hand.
+ghost use Rattle.std.specs.Prelude.{◌≡◌};
+ghost use Rattle.mlp_syntax.specs.declared.major.Kind.TheVariants.{Fba};
+
+use crate::laws::law_segment;
+use crate::{Ending, Known, Place, read_segment, read_segment_into};
+use mlp_layout::broken;
+use mlp_params::State;
+use mlp_syntax::{Field, Kind, Segment};
+
+/// A restart, 40 frames of no bits, and checks.
+const FIRST: [u8; 24] = [
+    0xF1, 0xEA, 0x0E, 0x10, 0x01, 0x10, 0, 0, 0, 0, 0, 0, 0, 0, 0, 0x03, 0x98, 0x8A, 0x04, 0x00,
+    0x80, 0x10, 0x38, 0xC5,
+];
+
+/// The same with blocks of 8 and 32 frames, and a terminator that drops 39.
+const ENDED: [u8; 30] = [
+    0xF1, 0xEA, 0x0E, 0x10, 0x01, 0x10, 0, 0, 0, 0, 0, 0, 0, 0, 0, 0x03, 0x98, 0x08, 0x01, 0x00,
+    0x12, 0x20, 0x04, 0x00, 0xD2, 0x34, 0x20, 0x27, 0xF8, 0x98,
+];
+
+fn stereo(major: bool) -> Place
+    ensures { result ≡ record { format = Fba; unit_frames = 40; major = major } }
+{
+    Place {
+        format: Kind::Fba,
+        unit_frames: 40,
+        major,
+    }
+}
+
+#[test]
+fn reads_segments(rt: HostRuntime) {
+    law_segment();
+    let mut state: Option<State> = None;
+    let Ok(first) = read_segment(&stereo(true), &mut state, &FIRST, true) else {
+        panic!(rt; "the first segment is one");
+    };
+    assert_eq!(rt; first.codes.len(), 40);
+    assert_eq!(rt; first.blocks.len(), 1);
+    assert_eq!(rt; first.terminator, None);
+    let Ok(second) = read_segment(&stereo(false), &mut state, &[0x40, 0x00, 0xE9, 0x1D], true)
+    else {
+        panic!(rt; "so is the second");
+    };
+    assert_eq!(rt; second.codes.len(), 40);
+}
+
+#[test]
+fn names_faults(rt: HostRuntime) {
+    let faults = [
+        ([0x40u8, 0x00, 0xE8, 0x1D], Field::SegmentParity, 16),
+        ([0x40, 0x00, 0xE9, 0x1C], Field::SegmentCheck, 24),
+        ([0x40, 0x00, 0xE9, 0x1D], Field::RestartMissing, 0),
+    ];
+    for (bytes, field, bit) in faults {
+        let mut state: Option<State> = None;
+        let answer = read_segment(&stereo(true), &mut state, &bytes, true);
+        assert_eq!(rt; answer.err(), Some(broken(field, bit)));
+    }
+    let mut state: Option<State> = None;
+    assert_eq!(rt;
+        read_segment(&stereo(true), &mut state, &[0x40, 0x00], true).err(),
+        Some(broken(Field::SegmentShort, 0))
+    );
+}
+
+#[test]
+fn reads_by_what_is_known(rt: HostRuntime) {
+    let mut state: Option<State> = None;
+    let mut known = Known::default();
+    let mut segment = Segment::default();
+    known.first = Some(Ending {
+        frames: 40,
+        terminator: true,
+    });
+    assert!(rt;
+        read_segment_into(
+            &stereo(true),
+            &known,
+            &mut state,
+            &ENDED,
+            true,
+            &mut segment
+        )
+        .is_ok()
+    );
+    assert_eq!(rt; segment.blocks.len(), 2);
+    assert_eq!(rt; segment.terminator, Some(0x2027));
+    let mut state: Option<State> = None;
+    let answer = read_segment_into(
+        &stereo(true),
+        &known,
+        &mut state,
+        &FIRST,
+        true,
+        &mut segment,
+    );
+    assert_eq!(rt; answer, Err(broken(Field::TerminatorMixed, 176)));
+    let mut state: Option<State> = None;
+    known.covered = Some(0);
+    known.max_matrix = Some(3);
+    let answer = read_segment_into(
+        &stereo(true),
+        &known,
+        &mut state,
+        &ENDED,
+        true,
+        &mut segment,
+    );
+    assert_eq!(rt; answer, Err(broken(Field::ChannelsChanged, 40)));
+}
