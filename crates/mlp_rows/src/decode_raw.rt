@@ -1,0 +1,99 @@
+//! The command `decode-raw` over raw stereo streams.
+use crate::runs::{Edge, WHOLE, run_over};
+use crate::streams::{raw_samples, raw_unit, two_raw_units};
+use std::test::Fail;
+
+const WORDS: &str = "decode-raw --presentation 0";
+
+#[test]
+fn decodes_units_in_any_pieces(rt: HostRuntime) -> Result<(), Fail> {
+    let alloc = rt.alloc();
+    let mut samples = raw_samples(alloc)?;
+    for piece in [1, 7, 8190] {
+        let edge = Edge { piece, ..WHOLE };
+        let one = run_over(alloc, WORDS, &raw_unit(alloc)?, &edge)?;
+        assert_eq!(rt; one.status, 0);
+        assert_eq!(rt; one.output, raw_samples(alloc)?);
+        assert_eq!(rt; one.line.len(), 0);
+    }
+    let two = run_over(alloc, WORDS, &two_raw_units(alloc)?, &WHOLE)?;
+    samples.resize(480, 0)?;
+    assert_eq!(rt; two.status, 0);
+    assert_eq!(rt; two.output, samples);
+    Ok(())
+}
+
+#[test]
+fn refuses_what_it_is_not_built_for(rt: HostRuntime) -> Result<(), Fail> {
+    let alloc = rt.alloc();
+    let unit = raw_unit(alloc)?;
+    let line = b"bad stream: unit 0, substream 0, NotBuilt, bit 0\n";
+    for length in [293, 3, 0] {
+        let mut front = raw_unit(alloc)?;
+        front.truncate(length);
+        let cut = run_over(alloc, WORDS, &front, &WHOLE)?;
+        assert_eq!(rt; cut.status, 1);
+        assert_eq!(rt; cut.output.len(), 0);
+        assert_eq!(rt; cut.line.as_slice(), line.as_slice());
+    }
+    let mut twice = raw_unit(alloc)?;
+    twice.extend_from_slice(&unit)?;
+    let second = run_over(alloc, WORDS, &twice, &WHOLE)?;
+    assert_eq!(rt; second.status, 1);
+    assert_eq!(rt; second.output, raw_samples(alloc)?);
+    assert_eq!(rt;
+        second.line.as_slice(),
+        b"bad stream: unit 1, substream 0, NotBuilt, bit 0\n".as_slice()
+    );
+    Ok(())
+}
+
+#[test]
+fn refuses_other_words(rt: HostRuntime) -> Result<(), Fail> {
+    let alloc = rt.alloc();
+    let unit = raw_unit(alloc)?;
+    for words in [
+        "decode-raw",
+        "decode-raw --presentation 0 --presentation 0",
+        "decode-raw --presentation=0",
+        "decode-raw --presentation 00",
+        "",
+    ] {
+        let other = run_over(alloc, words, &unit, &WHOLE)?;
+        assert_eq!(rt; other.status, 2);
+        assert_eq!(rt; other.output.len(), 0);
+        assert_eq!(rt; other.line.as_slice(), b"usage\n".as_slice());
+    }
+    Ok(())
+}
+
+#[test]
+fn tells_a_read_that_fails_and_a_write_that_fails(rt: HostRuntime) -> Result<(), Fail> {
+    let alloc = rt.alloc();
+    let unit = raw_unit(alloc)?;
+    let edge = Edge {
+        piece: 100,
+        read_fails: &[1],
+        ..WHOLE
+    };
+    let read = run_over(alloc, WORDS, &unit, &edge)?;
+    assert_eq!(rt; read.status, 5);
+    assert_eq!(rt; read.line.as_slice(), b"read fault\n".as_slice());
+    assert_eq!(rt; read.late, 0);
+    let edge = Edge {
+        write_fails: &[0],
+        ..WHOLE
+    };
+    let write = run_over(alloc, WORDS, &unit, &edge)?;
+    assert_eq!(rt; write.status, 6);
+    assert_eq!(rt; write.output.len(), 0);
+    assert_eq!(rt; write.line.as_slice(), b"write fault\n".as_slice());
+    assert_eq!(rt; write.late, 0);
+    let full = run_over(alloc, WORDS, &unit, &Edge { room: 100, ..WHOLE })?;
+    assert_eq!(rt; full.status, 6);
+    let mut front = raw_samples(alloc)?;
+    front.truncate(100);
+    assert_eq!(rt; full.output, front);
+    assert_eq!(rt; full.late, 0);
+    Ok(())
+}

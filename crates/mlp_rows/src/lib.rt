@@ -1,0 +1,11 @@
+//! Worked streams and what the program answers to them. There is nothing here but tests.
+#![tactic(auto)]
+
+#[cfg(test)]
+mod decode_raw;
+#[cfg(test)]
+mod runs;
+#[cfg(test)]
+mod streams;
+#[cfg(test)]
+mod watched;
