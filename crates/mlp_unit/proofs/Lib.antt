@@ -8,3 +8,4 @@ pub mod WordTexts
 pub mod WrittenLaws
 pub mod OutlineLaws
 pub mod RoundTrip
+pub mod Reread

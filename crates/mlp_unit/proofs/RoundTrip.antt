@@ -32,7 +32,7 @@ fifteen s lt =
     let same : bit_xor s 15 % 16 ≡ bit_xor s 15 = omega (arith, small) in
     ap (λ (n : ℕ). bit_xor n s) (same ∙ xor_comm s 15) ∙ xor_assoc 15 s s ∙ ap (bit_xor 15) (xor_self s) ∙ xor_zero_r 15
 
-head_sum : (check words timing : ℕ) (es : List DirEntry) → words < 4096 → parity_of (record { check = check; words = words; timing = timing }) es ≡ bit_xor (check % 16) (half_byte_sum (bits 12 words ++ (bits 16 timing ++ (directory (length es)).spelling es)))
+pub head_sum : (check words timing : ℕ) (es : List DirEntry) → words < 4096 → parity_of (record { check = check; words = words; timing = timing }) es ≡ bit_xor (check % 16) (half_byte_sum (bits 12 words ++ (bits 16 timing ++ (directory (length es)).spelling es)))
 head_sum check words timing es lt =
     let d = (directory (length es)).spelling es in
     let text : head.spelling (record { check = check; words = words; timing = timing }) ++ d ≡ bits 4 check ++ (bits 12 words ++ (bits 16 timing ++ d)) =

@@ -67,7 +67,7 @@ directory_even (e ∷ es) = let later = directory_even es in omega (arith, later
 
 -- ---- an entry doesn't look like a sync
 
-no_sync : (t : List Bool) → eqb (number (take 31 (false ∷ t))) sync ≡ false
+pub no_sync : (t : List Bool) → eqb (number (take 31 (false ∷ t))) sync ≡ false
 unfolding number
 no_sync t =
     let small : number (take 30 t) < 2 ^ 30 = number-take 30 t in
@@ -83,15 +83,15 @@ unfolding part
 begins_with l of_record rest r b h = ((rest (of_record r)).spelling r, ap (λ (t : List Bool). t ++ (rest (of_record r)).spelling r) h)
 
 -- an entry's first bit says whether it has an extra word
-behind_first_bit : (e : DirEntry) → (t : List Bool) × (entry.spelling e ≡ is_some e.extra ∷ t)
+pub behind_first_bit : (e : DirEntry) → (t : List Bool) × (entry.spelling e ≡ is_some e.extra ∷ t)
 unfolding entry
 behind_first_bit e = begins_with flag _ _ e (is_some e.extra) (flag_text (is_some e.extra))
 
-directory_first : (e : DirEntry) (es : List DirEntry) → (directory (length (e ∷ es))).spelling (e ∷ es) ≡ entry.spelling e ++ (directory (length es)).spelling es
+pub directory_first : (e : DirEntry) (es : List DirEntry) → (directory (length (e ∷ es))).spelling (e ∷ es) ≡ entry.spelling e ++ (directory (length es)).spelling es
 unfolding directory times item whole
 directory_first e es = refl
 
-directory_first_fits : (e : DirEntry) (es : List DirEntry) → (directory (length (e ∷ es))).Fits (e ∷ es) → entry.Fits e
+pub directory_first_fits : (e : DirEntry) (es : List DirEntry) → (directory (length (e ∷ es))).Fits (e ∷ es) → entry.Fits e
 unfolding directory times item whole
 directory_first_fits e es fits = fits.0
 

@@ -4,7 +4,7 @@ use Rattle.mlp_syntax.specs.declared.major.MajorSync.{MajorSync}
 use Rattle.mlp_syntax.specs.declared.unit.DirEntry.{DirEntry}
 use Rattle.mlp_syntax.specs.declared.unit.UnitHead.{UnitHead}
 use Rattle.mlp_layout.specs.Layout.{next_is}
-use Rattle.mlp_major.specs.MajorSync.{major_sync, sync}
+use Rattle.mlp_major.specs.MajorSync.{major_sync, sync, IsUsable}
 use Rattle.mlp_unit.specs.Directory.{directory, directory_size}
 use Rattle.mlp_unit.specs.AccessUnit.{AccessUnit, major_size, parity_of, first_bad_end}
 
@@ -20,6 +20,11 @@ major_text (Some m) = (major_sync None).spelling m
 abbrev pub CountFits : Option MajorSync → ℕ → Type 0
 CountFits None count = Unit {0}
 CountFits (Some m) count = count ≡ m.substreams
+
+-- the stream's first major sync, if there is one yet, met the rules on it
+abbrev pub FirstUsable : Option MajorSync → Type 0
+FirstUsable None = Unit {0}
+FirstUsable (Some first) = IsUsable first
 
 -- these can be a unit's
 pub record Writable (major : Option MajorSync) (entries : List DirEntry) (body : List ℕ) : Type 0 where

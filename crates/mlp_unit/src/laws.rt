@@ -1,5 +1,5 @@
 //! What holds of the layout of an access unit.
-ghost use Rattle.std.specs.Prelude.{◌≡◌, ◌≤◌, ◌<◌, ◌++◌, ℕ, List, Option, None, Ok, Err, is_some, length, take};
+ghost use Rattle.std.specs.Prelude.{◌≡◌, ◌≤◌, ◌*◌, ◌++◌, ℕ, List, Option, None, Ok, Err, is_some, length, take};
 ghost use Rattle.mlp_syntax.specs.declared.fault.Broken.{Broken};
 ghost use Rattle.mlp_syntax.specs.declared.major.MajorSync.{MajorSync};
 ghost use Rattle.mlp_bits.specs.Bits.{bits_of};
@@ -8,7 +8,7 @@ ghost use Rattle.mlp_syntax.specs.declared.unit.DirEntry.{DirEntry};
 ghost use Rattle.mlp_layout.specs.Combined.{first_fault};
 ghost use Rattle.mlp_unit.specs.Directory.{first_failing, may_stand};
 ghost use Rattle.mlp_unit.specs.AccessUnit.{AccessUnit, access_unit, in_force, stream_kind, is_restart_flag, rules};
-ghost use Rattle.mlp_unit.specs.Written.{Writable, unit_size, written_unit};
+ghost use Rattle.mlp_unit.specs.Written.{FirstUsable, Writable, unit_size, written_unit};
 ghost use Rattle.mlp_unit.specs.Frame.{frame_of};
 ghost use Rattle.mlp_unit.specs.Outline.{HasOneOutline};
 
@@ -39,4 +39,12 @@ pub fn law_written()
     ensures back { (first : Option MajorSync) (u : AccessUnit) → (access_unit first).Fits u → (access_unit first).Meets u → (access_unit first).read ((access_unit first).spelling u) 0 ≡ Ok (u, length ((access_unit first).spelling u)) }
     ensures rules { (first : Option MajorSync) (timing : ℕ) (major : Option MajorSync) (entries : List DirEntry) (body : List ℕ) → Writable major entries body → unit_size major entries body ≤ 8190
         → first_failing (may_stand (stream_kind (in_force first major))) 0 entries ≡ None → first_failing (is_restart_flag (is_some major)) 0 entries ≡ None → first_fault (rules first) (written_unit timing major entries body) ≡ None }
+{}
+
+/// A unit that was read is the one that is written for its timing, major sync, entries and body. So its own bytes are
+/// written again.
+pub fn law_reread()
+    ensures writable { (first : Option MajorSync) (bytes : List ℕ) (u : AccessUnit) → FirstUsable first → (access_unit first).read (bits_of bytes) 0 ≡ Ok (u, 8 * length bytes) → Writable u.major u.entries u.body }
+    ensures same { (first : Option MajorSync) (bytes : List ℕ) (u : AccessUnit) → FirstUsable first → (access_unit first).read (bits_of bytes) 0 ≡ Ok (u, 8 * length bytes) → written_unit u.head.timing u.major u.entries u.body ≡ u }
+    ensures bits { (first : Option MajorSync) (bytes : List ℕ) (u : AccessUnit) → (access_unit first).read (bits_of bytes) 0 ≡ Ok (u, 8 * length bytes) → (access_unit first).spelling u ≡ bits_of bytes }
 {}
