@@ -1,9 +1,14 @@
-//! Mixes: profiles of an encoder, and the matrix rows and steps by which the channels of PCM frames are coded.
+//! Mixes: how the channels of PCM frames are coded, and what each presentation of them is.
 #![tactic(auto)]
 
+mod coding;
 mod matrices;
+mod presenting;
 mod profile;
+mod sums;
 
+pub use coding::{CodedFrame, coded};
 pub use matrices::{rows, steps};
 pub use mlp_syntax::ProfileFault;
+pub use presenting::presented;
 pub use profile::{Mix, Profile};
