@@ -1,11 +1,10 @@
 -- The first bytes of a unit.
-use Rattle.std.proofs.Common.{◌≡◌, ℕ, ◌≤◌, ◌<◌, false, List, ◌++◌, length, take, drop, refl, arith}
+use Rattle.std.proofs.Common.{◌≡◌, ℕ, ◌≤◌, false, List, ◌++◌, length, take, drop, refl, arith}
 use Rattle.std.proofs.lemmas.List.{length-take, length-drop, drop-take, take-take, take-append-le}
 use Rattle.std.specs.Prelude.{replicate}
 use Rattle.mlp_bits.specs.Bits.{bits_of}
 use Rattle.mlp_bits.specs.Cursor.{peeked}
 use Rattle.mlp_bits.proofs.BitLists.{length-bits_of}
-use Rattle.mlp_bits.proofs.Fields.{number-take}
 use Rattle.mlp_major.proofs.SyncReading.{bits_of-take}
 use Rattle.mlp_present.specs.Decoding.{words_of}
 
@@ -25,6 +24,3 @@ peeked_words bytes place le is =
     let enough : 12 ≤ length (drop 4 (bits_of (take 4 bytes))) = omega (arith, four_bytes bytes le, length-drop 4 (bits_of (take 4 bytes))) in
     let none : take 12 (drop 4 (bits_of (take 4 bytes)) ++ replicate 12 false) ≡ take 12 (drop 4 (bits_of (take 4 bytes))) = take-append-le 12 (drop 4 (bits_of (take 4 bytes))) (replicate 12 false) enough in
     rw (is, none, first_bits bytes le) refl
-
-pub few_words : (bytes : List ℕ) → words_of bytes < 4096
-few_words bytes = number-take 12 (drop 4 (bits_of bytes))

@@ -66,7 +66,7 @@ impl Decoder {
         if let Some(refusal) = self.refusal {
             return Err(refusal);
         }
-        match self.kept.next(self.presentation, next, &mut out.rows) {
+        match self.kept.take_next(self.presentation, next, &mut out.rows) {
             Ok(size) => Ok(size),
             Err(refusal) => {
                 out.rows.clear();

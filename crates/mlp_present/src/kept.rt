@@ -84,7 +84,7 @@ impl Kept {
     }
 
     /// Takes a whole unit, and puts its frames into `rows`.
-    fn take(
+    fn take_whole(
         &mut self,
         presentation: u8,
         unit: &[u8],
@@ -119,7 +119,7 @@ impl Kept {
     }
 
     /// Takes the next unit, and puts its frames into `rows`.
-    pub fn next(
+    pub fn take_next(
         &mut self,
         presentation: u8,
         next: &[u8],
@@ -134,6 +134,6 @@ impl Kept {
         let Some(unit) = whole_unit(next) else {
             return Err(self.not_built());
         };
-        self.take(presentation, unit, rows)
+        self.take_whole(presentation, unit, rows)
     }
 }

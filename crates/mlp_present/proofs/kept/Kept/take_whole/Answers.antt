@@ -6,8 +6,8 @@ use Rattle.mlp_present.specs.FirstForm.{Left}
 use Rattle.mlp_present.specs.declared.refusal.Refusal.{Refusal}
 use Rattle.mlp_present.specs.Decoding.{Taken}
 use Rattle.mlp_present.proofs.NextUnit.{Seen, no_outer, code_none, code_fails, code_taken, sync_first, sync_later}
-use Rattle.mlp_present.proofs.kept.Kept.take.Goals as goal
-use Rattle.mlp_present.proofs.kept.Kept.take.Goals.{then-is_first, else-is_first}
+use Rattle.mlp_present.proofs.kept.Kept.take_whole.Goals as goal
+use Rattle.mlp_present.proofs.kept.Kept.take_whole.Goals.{then-is_first, else-is_first}
 
 pub returns-in_default-clause-unit : goal.returns-in_default-clause-unit
 returns-in_default-clause-unit c =
