@@ -148,13 +148,11 @@ fn replace_filter<const N: usize>(given: &Option<Filter<N>>, now: &mut Filter<N>
     ensures { now.new ≡ unwrap_or (option_map stateless given.now) now.old }
 {
     if let Some(filter) = given {
-        *now = Filter {
-            shift: filter.shift,
-            coeff_bits: filter.coeff_bits,
-            coeff_shift: filter.coeff_shift,
-            coeffs: copied(&filter.coeffs),
-            state: None,
-        };
+        now.shift = filter.shift;
+        now.coeff_bits = filter.coeff_bits;
+        now.coeff_shift = filter.coeff_shift;
+        now.coeffs = copied(&filter.coeffs);
+        now.state = None;
     }
 }
 

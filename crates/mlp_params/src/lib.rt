@@ -9,6 +9,8 @@ pub mod laws;
 mod matrices;
 mod parameters;
 mod state;
+#[cfg(test)]
+mod tests;
 mod write_channels;
 mod write_filters;
 mod write_header;
