@@ -1,2 +1,5 @@
 pub mod Samples
 pub mod WaveHeader
+pub mod WaveFormat
+pub mod WaveScan
+pub mod WaveBytes

@@ -2,11 +2,17 @@
 #![tactic(auto)]
 
 mod samples;
+mod wave_bytes;
+mod wave_chunks;
+mod wave_format;
 mod wave_header;
+mod wave_reader;
 
 pub use mlp_syntax::{PcmFault, ProfileFault, WaveField};
 pub use samples::{pack, unpack};
+pub use wave_bytes::WaveRefusal;
 pub use wave_header::write_wave_header;
+pub use wave_reader::{WaveInfo, read_wave_header};
 
 #[cfg(test)]
 mod tests;

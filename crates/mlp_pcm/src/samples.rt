@@ -23,7 +23,7 @@ fn sample(bytes: &[u8], width: u8) -> i32
 }
 
 /// The bytes behind the first ones.
-fn behind(bytes: &[u8], size: usize) -> &[u8]
+pub(crate) fn behind(bytes: &[u8], size: usize) -> &[u8]
     requires { size ≤ length bytes.now }
     ensures { result.now ≡ drop size bytes.now }
 {
