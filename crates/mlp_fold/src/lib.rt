@@ -2,6 +2,7 @@
 #![tactic(auto)]
 
 mod coding;
+pub mod laws;
 mod matrices;
 mod presenting;
 mod profile;
