@@ -14,6 +14,11 @@ pub record IsSample (q : ℕ) (x : ℤ) : Type 0 where
   pub high : x <ℤ pos (2 ^ 23)
   pub cleared : clear q x ≡ x
 
+-- 24 signed bits
+pub record Is24 (v : ℤ) : Type 0 where
+  pub low : neg_ℤ (pos (2 ^ 23)) ≤ℤ v
+  pub high : v <ℤ pos (2 ^ 23)
+
 -- the channels of presentation or substream k, counted from the first
 abbrev pub channels_of : ℕ → ℕ
 channels_of zero = 2
