@@ -1,6 +1,10 @@
+ghost use Rattle.std.specs.Prelude.{◌<◌, ◌≤◌};
+
 use super::*;
 use arrayvec::ArrayVec;
+use mlp_io::MemSource;
 use mlp_syntax::Frames;
+use std::alloc::{AllocError, Global};
 
 #[test]
 fn a_header_stands_before_six_bytes(rt: HostRuntime) {
@@ -43,4 +47,51 @@ fn samples_are_signed_and_little_endian(rt: HostRuntime) {
         unpack(b"\x10\x00\x00\x18\x00\x00", 3, 20, 1, &mut frames),
         Err(1)
     );
+}
+
+/// Reads the first bytes of a header with one byte changed, in pieces of 5 bytes.
+fn read_changed(
+    alloc: Global,
+    length: usize,
+    place: usize,
+    byte: u8,
+) -> Result<Result<WaveInfo, WaveRefusal>, AllocError>
+    requires { (length ≤ 68) × (place < 68) }
+{
+    let mut header = write_wave_header(2, 48000, 24, 6);
+    header[place] = byte;
+    let bytes = header[..length].to_vec(alloc)?;
+    let mut source = MemSource::new(bytes, 5, Vec::new(alloc));
+    Ok(read_wave_header(&mut source))
+}
+
+#[test]
+fn a_header_is_read_back_or_refused(rt: HostRuntime) -> Result<(), AllocError> {
+    let alloc = rt.alloc();
+    let info = WaveInfo {
+        channels: 2,
+        rate: 48000,
+        depth: 24,
+        width: 3,
+        size: 6,
+        taken: 68,
+    };
+    assert_eq!(rt; read_changed(alloc, 68, 0, b'R')?, Ok(info));
+    assert_eq!(rt;
+        read_changed(alloc, 11, 0, b'R')?,
+        Err(WaveRefusal::Header(WaveField::Riff))
+    );
+    assert_eq!(rt;
+        read_changed(alloc, 43, 0, b'R')?,
+        Err(WaveRefusal::Header(WaveField::Chunk))
+    );
+    assert_eq!(rt;
+        read_changed(alloc, 68, 20, 0x02)?,
+        Err(WaveRefusal::Header(WaveField::Tag))
+    );
+    assert_eq!(rt;
+        read_changed(alloc, 68, 32, 0x07)?,
+        Err(WaveRefusal::Header(WaveField::Align))
+    );
+    Ok(())
 }
