@@ -13,3 +13,6 @@ pub use matrices::{rows, steps};
 pub use mlp_syntax::ProfileFault;
 pub use presenting::presented;
 pub use profile::{Mix, Profile};
+
+#[cfg(test)]
+mod tests;
