@@ -11,3 +11,6 @@ mod writing;
 pub use rate::{frames_per_unit, sample_rate};
 pub use reading::{read_major, read_sync};
 pub use writing::write_major;
+
+#[cfg(test)]
+mod tests;
