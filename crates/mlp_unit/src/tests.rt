@@ -1,9 +1,7 @@
-//! The rules on an access unit's outer part, each with units of which it is the first that fails; and units that are
-//! read and written.
-use crate::{frame, read_directory, read_outer, segment_range, write_unit};
-use mlp_syntax::{
-    Broken, DirEntry, Field, FormatInfo, Kind, MajorSync, Outer, UnitBytes, UnitTooLong,
-};
+//! The rules on an access unit's outer part, each with units of which it is the first that fails; and a directory with its
+//! segment.
+use crate::{frame, read_directory, read_outer, segment_range};
+use mlp_syntax::{Broken, DirEntry, Field, Kind, MajorSync, Outer};
 use std::process::Abort;
 
 /// A silent first unit.
@@ -552,4 +550,33 @@ fn rules_on_directory(rt: HostRuntime) {
             "{field:?} at {bit}"
         );
     }
+}
+
+#[test]
+fn a_directory_and_its_segments(rt: HostRuntime) {
+    let next = [
+        0xC0, 0x09, 0x00, 0x28, 0x60, 0x06, 0, 0, 0, 0, 0, 0, 0, 0, 0, 0, 0, 0,
+    ];
+    assert_eq!(rt; frame(&next), Ok(18));
+    let (entries, length) = read_directory(Kind::Fba, 1, &next[4..6])
+        .ok()
+        .expect(&rt, "a directory");
+    assert_eq!(rt; length, 2);
+    let entry = DirEntry {
+        extra: None,
+        restart_absent: true,
+        checked: true,
+        reserved: false,
+        end: 6,
+    };
+    assert_eq!(rt; entries.as_slice(), [entry].as_slice());
+    let first = outer(&rt, &FIRST_TRUEHD, None)
+        .ok()
+        .expect(&rt, "a first unit");
+    let unit = outer(&rt, &next, first.major.as_ref())
+        .ok()
+        .expect(&rt, "a unit");
+    assert_eq!(rt; unit.body, 6);
+    assert_eq!(rt; unit.entries.len(), 1);
+    assert_eq!(rt; segment_range(&unit, 0), (6, 18));
 }
