@@ -1,4 +1,4 @@
-//! The one loop of all commands.
+//! One streaming loop for every command: a session takes the input one unit at a time, through a window on the stack.
 #![tactic(auto)]
 
 mod gather;
@@ -12,4 +12,3 @@ pub use refusal::Refusal;
 pub use session::Session;
 pub use stop::Stop;
 pub use turns::pump;
-pub use window::{Rest, Window};
