@@ -2,3 +2,4 @@ pub mod Codes
 pub mod Counting
 pub mod FrameLaws
 pub mod FrameWriting
+pub mod StepLaws

@@ -63,6 +63,28 @@ fn coded_from(least: usize, channels: &[ChannelState], steps: &[u8]) -> ArrayVec
     coded_channels(&channels[least..], &steps[least..])
 }
 
+/// Whether each channel from one on has at least as many low bits as its step.
+fn steps_below(least: usize, steps: &[u8], channels: &[ChannelState]) -> bool
+    ensures { result ≡ steps_below (drop least steps.now) (drop least channels.now) }
+{
+    for i in least..steps.len() {
+        if i >= channels.len() {
+            return true;
+        }
+        if steps[i] > channels[i].low {
+            return false;
+        }
+    }
+    true
+}
+
+/// Whether each channel from the least to the greatest has at least as many low bits as its step.
+pub fn steps_fit(state: &State) -> bool
+    ensures { result ≡ steps_fit state.now }
+{
+    steps_below(state.restart.min as usize, &state.steps, &state.channels)
+}
+
 /// How the frames of a block are coded by the parameters in force.
 pub fn coding_in_force(state: &State) -> Coding
     requires state { IsState state.now }

@@ -15,7 +15,7 @@ pub use block::{ResidualCoding, residuals};
 pub use coding::{code_of, residual};
 pub use count::bits_of;
 pub use frames::{ChannelCode, Coding, read_coded};
-pub use in_force::{coding_in_force, read_frames};
+pub use in_force::{coding_in_force, read_frames, steps_fit};
 pub use laws::{law_codes, law_frames};
 pub use writing::{write_coded, write_frames};
 
