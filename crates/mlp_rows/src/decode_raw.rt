@@ -1,6 +1,6 @@
 //! The command `decode-raw` over raw stereo streams.
 use crate::runs::{Edge, WHOLE, run_over};
-use crate::streams::{raw_samples, raw_unit, two_raw_units};
+use crate::streams::{raw_samples, raw_unit, raw_units};
 use std::test::Fail;
 
 const WORDS: &str = "decode-raw --presentation 0";
@@ -16,7 +16,7 @@ fn decodes_units_in_any_pieces(rt: HostRuntime) -> Result<(), Fail> {
         assert_eq!(rt; one.output, raw_samples(alloc)?);
         assert_eq!(rt; one.line.len(), 0);
     }
-    let two = run_over(alloc, WORDS, &two_raw_units(alloc)?, &WHOLE)?;
+    let two = run_over(alloc, WORDS, &raw_units(alloc, 1)?, &WHOLE)?;
     samples.resize(480, 0)?;
     assert_eq!(rt; two.status, 0);
     assert_eq!(rt; two.output, samples);
@@ -95,5 +95,34 @@ fn tells_a_read_that_fails_and_a_write_that_fails(rt: HostRuntime) -> Result<(),
     front.truncate(100);
     assert_eq!(rt; full.output, front);
     assert_eq!(rt; full.late, 0);
+    Ok(())
+}
+
+/// The units have 35,014 bytes, and more of them is read after the first writes.
+#[test]
+fn calls_neither_side_after_a_call_that_failed(rt: HostRuntime) -> Result<(), Fail> {
+    let alloc = rt.alloc();
+    let units = raw_units(alloc, 140)?;
+    for call in 0..9 {
+        let edge = Edge {
+            piece: 4000,
+            read_fails: &[call],
+            ..WHOLE
+        };
+        let read = run_over(alloc, WORDS, &units, &edge)?;
+        assert_eq!(rt; read.status, 5, "at {call}");
+        assert_eq!(rt; read.late, 0, "at {call}");
+        assert!(rt; call < 8 || read.output.len() > 0, "at {call}");
+    }
+    for call in 0..9 {
+        let edge = Edge {
+            piece: 4000,
+            write_fails: &[call],
+            ..WHOLE
+        };
+        let write = run_over(alloc, WORDS, &units, &edge)?;
+        assert_eq!(rt; write.status, 6, "at {call}");
+        assert_eq!(rt; write.late, 0, "at {call}");
+    }
     Ok(())
 }

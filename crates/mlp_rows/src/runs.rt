@@ -1,6 +1,6 @@
 //! Runs over memory.
 
-use crate::watched::{WatchedSink, WatchedSource};
+use crate::watched::{Watch, WatchedSink, WatchedSource};
 use mlp_io::{MemSink, MemSource};
 use mlp_tool::run;
 use std::alloc::{AllocError, Global};
@@ -28,7 +28,7 @@ pub struct Seen {
     pub status: u8,
     pub output: Vec<u8>,
     pub line: Vec<u8>,
-    /// The calls of the input or the output after their first that failed.
+    /// The calls of the input or the output after the first call of either that failed.
     pub late: u64,
 }
 
@@ -39,18 +39,15 @@ pub fn run_over(alloc: Global, words: &str, bytes: &[u8], edge: &Edge) -> Result
         list.push(String::from_str(alloc, word)?)?;
     }
     let piece = edge.piece.max(1);
-    let source = MemSource::new(bytes.to_vec(alloc)?, piece, edge.read_fails.to_vec(alloc)?);
+    let watch = Watch::new();
     let mut input = WatchedSource {
-        inner: source,
-        failed: false,
-        late: 0,
+        inner: MemSource::new(bytes.to_vec(alloc)?, piece, edge.read_fails.to_vec(alloc)?),
+        watch: &watch,
     };
     let room = vec![in alloc; 0; edge.room]?;
-    let sink = MemSink::new(room, piece, edge.write_fails.to_vec(alloc)?);
     let mut output = WatchedSink {
-        inner: sink,
-        failed: false,
-        late: 0,
+        inner: MemSink::new(room, piece, edge.write_fails.to_vec(alloc)?),
+        watch: &watch,
     };
     let mut errors = MemSink::new(vec![in alloc; 0; 200]?, piece, Vec::new(alloc));
     let status = run(alloc, &list, &mut input, &mut output, &mut errors);
@@ -58,6 +55,6 @@ pub fn run_over(alloc: Global, words: &str, bytes: &[u8], edge: &Edge) -> Result
         status,
         output: output.inner.bytes().to_vec(alloc)?,
         line: errors.bytes().to_vec(alloc)?,
-        late: input.late.saturating_add(output.late),
+        late: watch.late(),
     })
 }

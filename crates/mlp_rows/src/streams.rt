@@ -28,12 +28,14 @@ pub fn raw_unit(alloc: Global) -> Result<Vec<u8>, AllocError> {
     Ok(unit)
 }
 
-/// The same, and behind it a unit whose samples are all 0.
-pub fn two_raw_units(alloc: Global) -> Result<Vec<u8>, AllocError> {
+/// The same, and behind it so many units whose samples are all 0.
+pub fn raw_units(alloc: Global, silent: usize) -> Result<Vec<u8>, AllocError> {
     let mut units = raw_unit(alloc)?;
-    units.extend_from_slice(&LATER)?;
-    put_repeated(&mut units, &[0x40, 0x00, 0x00], 80)?;
-    units.extend_from_slice(&[0x40, 0x00])?;
+    for _ in 0..silent {
+        units.extend_from_slice(&LATER)?;
+        put_repeated(&mut units, &[0x40, 0x00, 0x00], 80)?;
+        units.extend_from_slice(&[0x40, 0x00])?;
+    }
     Ok(units)
 }
 
