@@ -211,7 +211,7 @@ impl<const F: usize, const I: usize> Predictor<F, I> {
         iir: &[i32; K],
         shift: u8,
         step: u8,
-        data: &mut [i32],
+        block: &mut [i32],
     )
         requires any_output { 0 < F }
         requires any_difference { 0 < I }
@@ -221,12 +221,12 @@ impl<const F: usize, const I: usize> Predictor<F, I> {
         requires iir_known { K ≤ I }
         requires filters { AreSmall (record { fir = fir.now; iir = iir.now; shift = shift }) }
         requires step { step < 16 }
-        ensures outputs { data.new ≡ outputs_of (record { fir = fir.now; iir = iir.now; shift = shift }) self.old step data.old }
-        ensures past { self.new ≡ latest F I (past_of (record { fir = fir.now; iir = iir.now; shift = shift }) self.old data.new) }
+        ensures outputs { block.new ≡ outputs_of (record { fir = fir.now; iir = iir.now; shift = shift }) self.old step block.old }
+        ensures past { self.new ≡ latest F I (past_of (record { fir = fir.now; iir = iir.now; shift = shift }) self.old block.new) }
     {
         let _ = &self.outputs;
-        for i in 0..data.len() {
-            data[i] = self.restored(fir, iir, shift, step, data[i]);
+        for i in 0..block.len() {
+            block[i] = self.restored(fir, iir, shift, step, block[i]);
         }
     }
 
@@ -269,7 +269,7 @@ impl<const F: usize, const I: usize> Predictor<F, I> {
         fir: &Filter<F>,
         iir: &Filter<I>,
         step: u8,
-        data: &mut [i32],
+        block: &mut [i32],
     )
         requires any_output { 0 < F }
         requires any_difference { 0 < I }
@@ -281,40 +281,40 @@ impl<const F: usize, const I: usize> Predictor<F, I> {
         requires iir_few { length iir.now.coeffs.items ≤ K }
         requires filters { AreFilters fir.now iir.now }
         requires step { step < 16 }
-        ensures outputs { data.new ≡ outputs_of (filters_of fir.now iir.now) self.old step data.old }
-        ensures past { self.new ≡ latest F I (past_of (filters_of fir.now iir.now) self.old data.new) }
+        ensures outputs { block.new ≡ outputs_of (filters_of fir.now iir.now) self.old step block.old }
+        ensures past { self.new ≡ latest F I (past_of (filters_of fir.now iir.now) self.old block.new) }
     {
         let fir_taps: [i32; M] = taps(fir.coeffs.as_slice(), fir.coeff_shift);
         let iir_taps: [i32; K] = taps(iir.coeffs.as_slice(), iir.coeff_shift);
-        self.restore_by(&fir_taps, &iir_taps, shift_of(fir, iir), step, data);
+        self.restore_by(&fir_taps, &iir_taps, shift_of(fir, iir), step, block);
     }
 
     /// Replaces a block of residuals by the outputs that `restore` gives for them one after another.
-    pub fn restore_block(&mut self, fir: &Filter<F>, iir: &Filter<I>, step: u8, data: &mut [i32])
+    pub fn restore_block(&mut self, fir: &Filter<F>, iir: &Filter<I>, step: u8, block: &mut [i32])
         requires any_output { 0 < F }
         requires any_difference { 0 < I }
         requires fir_room { F ≤ 16 }
         requires iir_room { I ≤ 16 }
         requires filters { AreFilters fir.now iir.now }
         requires step { step < 16 }
-        ensures outputs { data.new ≡ outputs_of (filters_of fir.now iir.now) self.old step data.old }
-        ensures past { self.new ≡ latest F I (past_of (filters_of fir.now iir.now) self.old data.new) }
+        ensures outputs { block.new ≡ outputs_of (filters_of fir.now iir.now) self.old step block.old }
+        ensures past { self.new ≡ latest F I (past_of (filters_of fir.now iir.now) self.old block.new) }
     {
         let order = fir.coeffs.as_slice().len();
         if iir.coeffs.as_slice().len() > 0 {
-            return self.restore_with::<F, I>(fir, iir, step, data);
+            return self.restore_with::<F, I>(fir, iir, step, block);
         }
         match order {
-            0 => self.restore_with::<0, 0>(fir, iir, step, data),
-            1 => self.restore_with::<1, 0>(fir, iir, step, data),
-            2 => self.restore_with::<2, 0>(fir, iir, step, data),
-            3 => self.restore_with::<3, 0>(fir, iir, step, data),
-            4 => self.restore_with::<4, 0>(fir, iir, step, data),
-            5 => self.restore_with::<5, 0>(fir, iir, step, data),
-            6 => self.restore_with::<6, 0>(fir, iir, step, data),
-            7 => self.restore_with::<7, 0>(fir, iir, step, data),
-            8 => self.restore_with::<8, 0>(fir, iir, step, data),
-            _ => self.restore_with::<F, 0>(fir, iir, step, data),
+            0 => self.restore_with::<0, 0>(fir, iir, step, block),
+            1 => self.restore_with::<1, 0>(fir, iir, step, block),
+            2 => self.restore_with::<2, 0>(fir, iir, step, block),
+            3 => self.restore_with::<3, 0>(fir, iir, step, block),
+            4 => self.restore_with::<4, 0>(fir, iir, step, block),
+            5 => self.restore_with::<5, 0>(fir, iir, step, block),
+            6 => self.restore_with::<6, 0>(fir, iir, step, block),
+            7 => self.restore_with::<7, 0>(fir, iir, step, block),
+            8 => self.restore_with::<8, 0>(fir, iir, step, block),
+            _ => self.restore_with::<F, 0>(fir, iir, step, block),
         }
     }
 
