@@ -5,3 +5,7 @@ pub mod RestartReading
 pub mod ReadingLaws
 pub mod StepLaws
 pub mod EndLaws
+pub mod WritingParts
+pub mod WritingBlocks
+pub mod WritingEnds
+pub mod RoundTrip

@@ -41,7 +41,7 @@ terminator_is : (format : Kind) → IsLayout (terminator format)
 unfolding terminator
 terminator_is format = fixed_is 16 0xD234 rule.Terminator (ruled_is _ (number_of_is 16))
 
-terminator_long : (format : Kind) (word : ℕ) → (terminator format).Fits word → length ((terminator format).spelling word) ≡ 32
+pub terminator_long : (format : Kind) (word : ℕ) → (terminator format).Fits word → length ((terminator format).spelling word) ≡ 32
 unfolding terminator fixed part ruled number_of
 terminator_long format word fits = omega (arith, length-append (bits 16 0xD234) (bits 16 word), length-bits 16 0xD234, length-bits 16 word)
 
@@ -101,7 +101,7 @@ module _ (place : Place) where
       part_tail_is (λ s. nested s.blocks.items s.codes.items) (up_to_last_is (block place known) (after_block place) rule.BlockOverrun (block_is place known) most_blocks at)
       (λ bs. rest_is bs checked) (nested_set known at checked)
 
-  segment_long : (known : Known) (at : At) (checked : Bool) (s : Segment) → (segment_tail place known at checked).Fits 0 s → 16 ≤ length ((segment_tail place known at checked).spelling 0 s)
+  pub segment_long : (known : Known) (at : At) (checked : Bool) (s : Segment) → (segment_tail place known at checked).Fits 0 s → 16 ≤ length ((segment_tail place known at checked).spelling 0 s)
   unfolding segment_tail part_tail placed number_of
   segment_long known at checked s fits =
       let l = up_to_last (block place known) (after_block place) rule.BlockOverrun most_blocks at in

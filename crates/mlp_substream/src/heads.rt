@@ -35,7 +35,7 @@ fn read_restart_if(
 }
 
 /// Puts in force what a restart gives.
-fn restart_at(place: &Place, header: &Option<Restart>, state: &mut Option<State>)
+pub fn restart_at(place: &Place, header: &Option<Restart>, state: &mut Option<State>)
     requires place { IsPlace place.now }
     requires header { IfSome header.now (λ h. Allowed (restart place.now.format) h) }
     requires state { IfSome state.old (λ s. FitsPlace place.now.format place.now.unit_frames s) }
@@ -69,7 +69,7 @@ fn read_params_if(
 }
 
 /// Puts parameters in force.
-fn apply_if(place: &Place, written: &Option<Params>, state: &mut Option<State>)
+pub fn apply_if(place: &Place, written: &Option<Params>, state: &mut Option<State>)
     requires written { IfSome written.now (λ p. IfSome state.old (λ s. Allowed (params s) p)) }
     requires state { IfSome state.old (λ s. FitsPlace place.now.format place.now.unit_frames s) }
     ensures value { state.new ≡ option_map (given written.now) state.old }

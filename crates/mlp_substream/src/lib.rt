@@ -15,6 +15,10 @@ mod restarts;
 mod segment;
 #[cfg(test)]
 mod tests;
+mod writing;
+mod writing_blocks;
+mod writing_heads;
 
 pub use known::{Ending, Known, Place};
 pub use segment::{read_segment, read_segment_into};
+pub use writing::write_segment;

@@ -1,12 +1,13 @@
 //! Segments of a silent stereo stream at 48 kHz, by bytes that were worked out by hand.
-ghost use Rattle.std.specs.Prelude.{◌≡◌};
+ghost use Rattle.std.specs.Prelude.{◌≡◌, ◌≤◌, IfOk, IfSome, OnOk, length};
+ghost use Rattle.mlp_substream.specs.Blocks.{FitsPlace, IsPlace};
 ghost use Rattle.mlp_syntax.specs.declared.major.Kind.TheVariants.{Fba};
 
-use crate::laws::law_segment;
-use crate::{Ending, Known, Place, read_segment, read_segment_into};
+use crate::laws::{law_reread, law_segment};
+use crate::{Ending, Known, Place, read_segment, read_segment_into, write_segment};
 use mlp_layout::broken;
 use mlp_params::State;
-use mlp_syntax::{Field, Kind, Segment};
+use mlp_syntax::{Broken, Field, Kind, Segment, UnitBytes, UnitTooLong};
 
 /// A restart, 40 frames of no bits, and checks.
 const FIRST: [u8; 24] = [
@@ -28,6 +29,59 @@ fn stereo(major: bool) -> Place
         unit_frames: 40,
         major,
     }
+}
+
+/// Reads a segment and appends it as it is written: what is in force is carried on in both.
+fn write_again(
+    place: &Place,
+    reading: &mut Option<State>,
+    writing: &mut Option<State>,
+    bytes: &[u8],
+    checked: bool,
+    out: &mut UnitBytes,
+) -> Result<Result<(), UnitTooLong>, Broken>
+    requires size { length bytes.now ≤ 8190 }
+    requires place { IsPlace place.now }
+    requires state { IfSome reading.old (λ s. FitsPlace place.now.format place.now.unit_frames s) }
+    requires same { writing.old ≡ reading.old }
+    ensures state { IfOk result (λ r. OnOk r (IfSome reading.new (λ s. FitsPlace place.now.format place.now.unit_frames s))) }
+    ensures same { IfOk result (λ r. OnOk r (writing.new ≡ reading.new)) }
+{
+    let segment = read_segment(place, reading, bytes, checked)?;
+    law_reread();
+    let answer = write_segment(place, writing, &segment, out);
+    Ok(answer)
+}
+
+#[test]
+fn writes_segments(rt: HostRuntime) {
+    let mut reading: Option<State> = None;
+    let mut writing: Option<State> = None;
+    let mut out = UnitBytes::new();
+    let second = [0x40, 0x00, 0xE9, 0x1D];
+    let Ok(Ok(())) = write_again(
+        &stereo(true),
+        &mut reading,
+        &mut writing,
+        &FIRST,
+        true,
+        &mut out,
+    ) else {
+        panic!(rt; "the first segment is written");
+    };
+    assert_eq!(rt; out.as_slice(), FIRST.as_slice());
+    let Ok(Ok(())) = write_again(
+        &stereo(false),
+        &mut reading,
+        &mut writing,
+        &second,
+        true,
+        &mut out,
+    ) else {
+        panic!(rt; "so is the second, behind it");
+    };
+    assert_eq!(rt; out.len(), 28);
+    assert_eq!(rt; &out[24..28], second.as_slice());
 }
 
 #[test]
