@@ -15,6 +15,8 @@ mod restarts;
 mod segment;
 #[cfg(test)]
 mod tests;
+#[cfg(test)]
+mod vectors;
 mod writing;
 mod writing_blocks;
 mod writing_heads;
