@@ -70,16 +70,16 @@ dot_back4 z0 z1 c2 c3 c4 c5 a b more = omega (arith, ints)
 dot_back5 : (z0 z1 c2 c3 c4 c5 a b : ℤ) (more : List ℤ) → dot (weights (row 5 14 false (None ∷ None ∷ None ∷ None ∷ None ∷ Some (pos 16384) ∷ None ∷ Some (negsuc 16383) ∷ []))) (z0 ∷ z1 ∷ c2 ∷ c3 ∷ c4 ∷ c5 ∷ a ∷ b ∷ more) ≡ (c5 -ℤ b) *ℤ pos 16384
 dot_back5 z0 z1 c2 c3 c4 c5 a b more = omega (arith, ints)
 
-dot_one2 : (z0 z1 c2 c3 c4 c5 a b : ℤ) (more : List ℤ) → dot (weights (row 2 0 true (on2 (pos 1)))) (z0 ∷ z1 ∷ c2 ∷ c3 ∷ c4 ∷ c5 ∷ a ∷ b ∷ more) ≡ c2 *ℤ pos 16384
+pub dot_one2 : (z0 z1 c2 c3 c4 c5 a b : ℤ) (more : List ℤ) → dot (weights (row 2 0 true (on2 (pos 1)))) (z0 ∷ z1 ∷ c2 ∷ c3 ∷ c4 ∷ c5 ∷ a ∷ b ∷ more) ≡ c2 *ℤ pos 16384
 dot_one2 z0 z1 c2 c3 c4 c5 a b more = omega (arith, ints)
 
-dot_one3 : (z0 z1 c2 c3 c4 c5 a b : ℤ) (more : List ℤ) → dot (weights (row 3 0 true (on3 (pos 1)))) (z0 ∷ z1 ∷ c2 ∷ c3 ∷ c4 ∷ c5 ∷ a ∷ b ∷ more) ≡ c3 *ℤ pos 16384
+pub dot_one3 : (z0 z1 c2 c3 c4 c5 a b : ℤ) (more : List ℤ) → dot (weights (row 3 0 true (on3 (pos 1)))) (z0 ∷ z1 ∷ c2 ∷ c3 ∷ c4 ∷ c5 ∷ a ∷ b ∷ more) ≡ c3 *ℤ pos 16384
 dot_one3 z0 z1 c2 c3 c4 c5 a b more = omega (arith, ints)
 
-dot_one4 : (z0 z1 c2 c3 c4 c5 a b : ℤ) (more : List ℤ) → dot (weights (row 4 0 true (on4 (pos 1)))) (z0 ∷ z1 ∷ c2 ∷ c3 ∷ c4 ∷ c5 ∷ a ∷ b ∷ more) ≡ c4 *ℤ pos 16384
+pub dot_one4 : (z0 z1 c2 c3 c4 c5 a b : ℤ) (more : List ℤ) → dot (weights (row 4 0 true (on4 (pos 1)))) (z0 ∷ z1 ∷ c2 ∷ c3 ∷ c4 ∷ c5 ∷ a ∷ b ∷ more) ≡ c4 *ℤ pos 16384
 dot_one4 z0 z1 c2 c3 c4 c5 a b more = omega (arith, ints)
 
-dot_one5 : (z0 z1 c2 c3 c4 c5 a b : ℤ) (more : List ℤ) → dot (weights (row 5 0 true (on5 (pos 1)))) (z0 ∷ z1 ∷ c2 ∷ c3 ∷ c4 ∷ c5 ∷ a ∷ b ∷ more) ≡ c5 *ℤ pos 16384
+pub dot_one5 : (z0 z1 c2 c3 c4 c5 a b : ℤ) (more : List ℤ) → dot (weights (row 5 0 true (on5 (pos 1)))) (z0 ∷ z1 ∷ c2 ∷ c3 ∷ c4 ∷ c5 ∷ a ∷ b ∷ more) ≡ c5 *ℤ pos 16384
 dot_one5 z0 z1 c2 c3 c4 c5 a b more = omega (arith, ints)
 
 dot_stereo0 : (z0 z1 a b : ℤ) (more : List ℤ) → dot (weights (row 0 14 false (Some (pos 6786) ∷ None ∷ None ∷ None ∷ []))) (z0 ∷ z1 ∷ a ∷ b ∷ more) ≡ pos 6786 *ℤ z0
@@ -93,7 +93,7 @@ dot_side x0 x1 a b more = omega (arith, ints)
 
 -- ---- bounds of what is lowered
 
-lowered_bounds : (q : ℕ) (v s : ℤ) → q ≤ 8 → IsSample q v → neg_ℤ (pos 274877906944) ≤ℤ s → s ≤ℤ pos 274877906944 → (neg_ℤ (pos 33554432) ≤ℤ lowered q v s) × (lowered q v s <ℤ pos 33554432)
+pub lowered_bounds : (q : ℕ) (v s : ℤ) → q ≤ 8 → IsSample q v → neg_ℤ (pos 274877906944) ≤ℤ s → s ≤ℤ pos 274877906944 → (neg_ℤ (pos 33554432) ≤ℤ lowered q v s) × (lowered q v s <ℤ pos 33554432)
 lowered_bounds q v s l f a b = (
   omega (arith, ints, clear_le q (floor_by 14 s), lt_clear q (floor_by 14 s), floor_le s 16384 (omega arith), lt_floor s 16384 (omega arith), pow-lt {i = q} {j = 9} (omega arith), f.low, f.high, a, b),
   omega (arith, ints, clear_le q (floor_by 14 s), lt_clear q (floor_by 14 s), floor_le s 16384 (omega arith), lt_floor s 16384 (omega arith), pow-lt {i = q} {j = 9} (omega arith), f.low, f.high, a, b),

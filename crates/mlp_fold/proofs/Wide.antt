@@ -11,6 +11,7 @@ use Rattle.mlp_arith.proofs.Residues.{clear_le, lt_clear}
 use Rattle.mlp_fold.specs.declared.profile.Mix.{Mix}
 use Rattle.mlp_fold.specs.declared.profile.Mix.TheVariants.{Split, Fold, Bypass, Side}
 use Rattle.mlp_fold.specs.Profile.{AreMixed}
+use Rattle.mlp_fold.proofs.Samples.{eight}
 use Rattle.mlp_fold.specs.Mix.{at, Is24, IsSample, channels_of, place, shown, lowered, stereo, halved, front6, front8, presented_of, presented_fold6, presented_fold8}
 
 zero24 : Is24 (pos 0)
@@ -26,19 +27,8 @@ either24 false v f = zero24
 place24 : (q n channels c : ℕ) (x : List ℤ) → n ≤ channels → ((c : ℕ) → c < channels → IsSample q (at x c)) → Is24 (place n x c)
 place24 q n channels c x l h = either24 (nat_lt c n) (at x c) (λ e. let k : c < n = ltb-true c n e in sample24 q (at x c) (h c (omega arith)))
 
-eight : (v0 v1 v2 v3 v4 v5 v6 v7 : ℤ) → Is24 v0 → Is24 v1 → Is24 v2 → Is24 v3 → Is24 v4 → Is24 v5 → Is24 v6 → Is24 v7 → (c : ℕ) → Is24 (at (v0 ∷ v1 ∷ v2 ∷ v3 ∷ v4 ∷ v5 ∷ v6 ∷ v7 ∷ []) c)
-eight v0 v1 v2 v3 v4 v5 v6 v7 h0 h1 h2 h3 h4 h5 h6 h7 zero = h0
-eight v0 v1 v2 v3 v4 v5 v6 v7 h0 h1 h2 h3 h4 h5 h6 h7 (suc zero) = h1
-eight v0 v1 v2 v3 v4 v5 v6 v7 h0 h1 h2 h3 h4 h5 h6 h7 (suc (suc zero)) = h2
-eight v0 v1 v2 v3 v4 v5 v6 v7 h0 h1 h2 h3 h4 h5 h6 h7 (suc (suc (suc zero))) = h3
-eight v0 v1 v2 v3 v4 v5 v6 v7 h0 h1 h2 h3 h4 h5 h6 h7 (suc (suc (suc (suc zero)))) = h4
-eight v0 v1 v2 v3 v4 v5 v6 v7 h0 h1 h2 h3 h4 h5 h6 h7 (suc (suc (suc (suc (suc zero))))) = h5
-eight v0 v1 v2 v3 v4 v5 v6 v7 h0 h1 h2 h3 h4 h5 h6 h7 (suc (suc (suc (suc (suc (suc zero)))))) = h6
-eight v0 v1 v2 v3 v4 v5 v6 v7 h0 h1 h2 h3 h4 h5 h6 h7 (suc (suc (suc (suc (suc (suc (suc zero))))))) = h7
-eight v0 v1 v2 v3 v4 v5 v6 v7 h0 h1 h2 h3 h4 h5 h6 h7 (suc (suc (suc (suc (suc (suc (suc (suc c)))))))) = zero24
-
 shown24 : (q n channels : ℕ) (x : List ℤ) → n ≤ channels → ((c : ℕ) → c < channels → IsSample q (at x c)) → (c : ℕ) → Is24 (at (shown n x) c)
-shown24 q n channels x l h = eight (place n x 0) (place n x 1) (place n x 2) (place n x 3) (place n x 4) (place n x 5) (place n x 6) (place n x 7) (place24 q n channels 0 x l h) (place24 q n channels 1 x l h) (place24 q n channels 2 x l h) (place24 q n channels 3 x l h) (place24 q n channels 4 x l h) (place24 q n channels 5 x l h) (place24 q n channels 6 x l h) (place24 q n channels 7 x l h)
+shown24 q n channels x l h = eight Is24 zero24 (place n x 0) (place n x 1) (place n x 2) (place n x 3) (place n x 4) (place n x 5) (place n x 6) (place n x 7) (place24 q n channels 0 x l h) (place24 q n channels 1 x l h) (place24 q n channels 2 x l h) (place24 q n channels 3 x l h) (place24 q n channels 4 x l h) (place24 q n channels 5 x l h) (place24 q n channels 6 x l h) (place24 q n channels 7 x l h)
 
 -- clearing low bits doesn't leave 24 bits
 clear_ge : (q : ℕ) (v : ℤ) → q ≤ 8 → neg_ℤ (pos 8388608) ≤ℤ v → neg_ℤ (pos 8388608) ≤ℤ clear q v
@@ -79,7 +69,7 @@ fold6_24 q zero x l h =
     let h2 : IsSample q (at x 2) = h 2 (omega arith) in
     let h4 : IsSample q (at x 4) = h 4 (omega arith) in
     let h5 : IsSample q (at x 5) = h 5 (omega arith) in
-    eight (stereo q (front6 q (at x 0) (at x 2) (at x 4))) (stereo q (front6 q (at x 1) (at x 2) (at x 5))) (pos 0) (pos 0) (pos 0) (pos 0) (pos 0) (pos 0)
+    eight Is24 zero24 (stereo q (front6 q (at x 0) (at x 2) (at x 4))) (stereo q (front6 q (at x 1) (at x 2) (at x 5))) (pos 0) (pos 0) (pos 0) (pos 0) (pos 0) (pos 0)
     (stereo24 q (at x 0) (negsuc 11584 *ℤ at x 2 +ℤ negsuc 11584 *ℤ at x 4) l (h 0 (omega arith)) (omega (arith, ints, h2.low, h2.high, h4.low, h4.high)) (omega (arith, ints, h2.low, h2.high, h4.low, h4.high)))
     (stereo24 q (at x 1) (negsuc 11584 *ℤ at x 2 +ℤ negsuc 11584 *ℤ at x 5) l (h 1 (omega arith)) (omega (arith, ints, h2.low, h2.high, h5.low, h5.high)) (omega (arith, ints, h2.low, h2.high, h5.low, h5.high)))
     zero24 zero24 zero24 zero24 zero24 zero24
@@ -92,12 +82,12 @@ fold8_24 q zero x l h =
     let h5 : IsSample q (at x 5) = h 5 (omega arith) in
     let h6 : IsSample q (at x 6) = h 6 (omega arith) in
     let h7 : IsSample q (at x 7) = h 7 (omega arith) in
-    eight (stereo q (front8 q (at x 0) (at x 2) (at x 4 +ℤ at x 6))) (stereo q (front8 q (at x 1) (at x 2) (at x 5 +ℤ at x 7))) (pos 0) (pos 0) (pos 0) (pos 0) (pos 0) (pos 0)
+    eight Is24 zero24 (stereo q (front8 q (at x 0) (at x 2) (at x 4 +ℤ at x 6))) (stereo q (front8 q (at x 1) (at x 2) (at x 5 +ℤ at x 7))) (pos 0) (pos 0) (pos 0) (pos 0) (pos 0) (pos 0)
     (stereo24 q (at x 0) (negsuc 11584 *ℤ at x 2 +ℤ negsuc 5792 *ℤ (at x 4 +ℤ at x 6)) l (h 0 (omega arith)) (omega (arith, ints, h2.low, h2.high, h4.low, h4.high, h6.low, h6.high)) (omega (arith, ints, h2.low, h2.high, h4.low, h4.high, h6.low, h6.high)))
     (stereo24 q (at x 1) (negsuc 11584 *ℤ at x 2 +ℤ negsuc 5792 *ℤ (at x 5 +ℤ at x 7)) l (h 1 (omega arith)) (omega (arith, ints, h2.low, h2.high, h5.low, h5.high, h7.low, h7.high)) (omega (arith, ints, h2.low, h2.high, h5.low, h5.high, h7.low, h7.high)))
     zero24 zero24 zero24 zero24 zero24 zero24
 fold8_24 q (suc zero) x l h =
-    eight (at x 0) (at x 1) (at x 2) (at x 3) (halved q (at x 4 +ℤ at x 6)) (halved q (at x 5 +ℤ at x 7)) (pos 0) (pos 0)
+    eight Is24 zero24 (at x 0) (at x 1) (at x 2) (at x 3) (halved q (at x 4 +ℤ at x 6)) (halved q (at x 5 +ℤ at x 7)) (pos 0) (pos 0)
     (sample24 q (at x 0) (h 0 (omega arith))) (sample24 q (at x 1) (h 1 (omega arith))) (sample24 q (at x 2) (h 2 (omega arith))) (sample24 q (at x 3) (h 3 (omega arith)))
     (halved24 q (at x 4) (at x 6) l (h 4 (omega arith)) (h 6 (omega arith))) (halved24 q (at x 5) (at x 7) l (h 5 (omega arith)) (h 7 (omega arith))) zero24 zero24
 fold8_24 q (suc (suc k)) x l h = shown24 q 8 8 x (omega arith) h

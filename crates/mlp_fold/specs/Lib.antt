@@ -1,3 +1,4 @@
 pub mod Profile
 pub mod Mix
 pub mod Rows
+pub mod Undone

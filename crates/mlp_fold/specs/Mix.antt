@@ -1,9 +1,10 @@
 -- The mixes: what is coded of a frame of PCM, and what each presentation shows of it. Values are of 24 bits, with low q bits 0.
-use Rattle.std.specs.Prelude.{◌≡◌, ℕ, zero, suc, ◌+◌, ◌*◌, ◌^◌, ◌==◌, nat_lt, List, [], ◌∷◌, slice_index_or, ℤ, pos, negsuc, neg_ℤ, ◌+ℤ◌, ◌-ℤ◌, ◌*ℤ◌, ◌≤ℤ◌, ◌<ℤ◌, cond, if◌then◌else◌}
+use Rattle.std.specs.Prelude.{◌≡◌, ℕ, zero, suc, ◌+◌, ◌*◌, ◌^◌, ◌<◌, ◌==◌, nat_lt, List, [], ◌∷◌, slice_index_or, ℤ, pos, negsuc, neg_ℤ, ◌+ℤ◌, ◌-ℤ◌, ◌*ℤ◌, ◌≤ℤ◌, ◌<ℤ◌, cond, if◌then◌else◌}
 use Rattle.mlp_arith.specs.Words.{floor_by, clear}
 use Rattle.mlp_matrix.specs.Matrix.{is_even}
 use Rattle.mlp_fold.specs.declared.profile.Mix.{Mix}
 use Rattle.mlp_fold.specs.declared.profile.Mix.TheVariants.{Split, Fold, Bypass, Side}
+use Rattle.mlp_fold.specs.declared.coding.CodedFrame.{CodedFrame}
 
 abbrev pub at : List ℤ → ℕ → ℤ
 at frame c = slice_index_or frame c (pos 0)
@@ -14,10 +15,19 @@ pub record IsSample (q : ℕ) (x : ℤ) : Type 0 where
   pub high : x <ℤ pos (2 ^ 23)
   pub cleared : clear q x ≡ x
 
+-- a frame whose first channels hold such values
+abbrev pub AreSamples : ℕ → ℕ → List ℤ → Type 0
+AreSamples q channels frame = (c : ℕ) → c < channels → IsSample q (at frame c)
+
 -- 24 signed bits
 pub record Is24 (v : ℤ) : Type 0 where
   pub low : neg_ℤ (pos (2 ^ 23)) ≤ℤ v
   pub high : v <ℤ pos (2 ^ 23)
+
+-- 26 signed bits
+pub record Is26 (v : ℤ) : Type 0 where
+  pub low : neg_ℤ (pos (2 ^ 25)) ≤ℤ v
+  pub high : v <ℤ pos (2 ^ 25)
 
 -- the channels of presentation or substream k, counted from the first
 abbrev pub channels_of : ℕ → ℕ
@@ -82,6 +92,13 @@ bypass_of Split x = 0
 bypass_of Fold x = 0
 bypass_of Bypass x = low_bit (at x 2) + 2 * low_bit (at x 3) + 4 * low_bit (at x 4) + 8 * low_bit (at x 5)
 bypass_of Side x = 0
+
+abbrev pub coded_frame : Mix → ℕ → ℕ → List ℤ → CodedFrame
+coded_frame mix q channels x = record { values = coded_of mix q channels x; bypass = bypass_of mix x }
+
+-- each coded value has 26 signed bits
+abbrev pub IsCoded : CodedFrame → Type 0
+IsCoded coded = (c : ℕ) → Is26 (at coded.values c)
 
 -- ---- what a presentation shows
 

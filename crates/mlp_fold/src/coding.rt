@@ -3,7 +3,7 @@
 ghost use Rattle.std.specs.Prelude.{◌≡◌, ◌≤◌, ◌<◌, ◌-◌, ℕ};
 ghost use Rattle.mlp_arith.specs.Words.{clear};
 ghost use Rattle.mlp_fold.specs.Profile.{AreMixed};
-ghost use Rattle.mlp_fold.specs.Mix.{at, IsSample, place, shown, coded_of, coded_fold6, coded_fold8, coded_bypass, coded_side, bypass_of, low_bit};
+ghost use Rattle.mlp_fold.specs.Mix.{at, IsSample, AreSamples, IsCoded, place, shown, coded_of, coded_fold6, coded_fold8, coded_bypass, coded_side, coded_frame, bypass_of, low_bit};
 
 use crate::profile::Mix;
 use crate::sums::{both, front6, front8};
@@ -45,9 +45,9 @@ pub fn shown(count: u8, frame: &[i32; 8]) -> [i32; 8]
 }
 
 /// The coded channels of Fold with six channels.
-fn fold6(q: u8, frame: &[i32; 8]) -> [i32; 8]
+pub fn fold6(q: u8, frame: &[i32; 8]) -> [i32; 8]
     requires q { q ≤ 8 }
-    requires samples { (c : ℕ) → c < 6 → IsSample q (at frame.now c) }
+    requires samples { AreSamples q 6 frame.now }
     ensures { result ≡ coded_fold6 q frame.now }
 {
     [
@@ -63,18 +63,20 @@ fn fold6(q: u8, frame: &[i32; 8]) -> [i32; 8]
 }
 
 /// The coded channels of Fold with eight channels.
-fn fold8(q: u8, frame: &[i32; 8]) -> [i32; 8]
+pub fn fold8(q: u8, frame: &[i32; 8]) -> [i32; 8]
     requires q { q ≤ 8 }
-    requires samples { (c : ℕ) → c < 8 → IsSample q (at frame.now c) }
+    requires samples { AreSamples q 8 frame.now }
     ensures { result ≡ coded_fold8 q frame.now }
 {
+    let left = both(q, frame[4], frame[6]);
+    let right = both(q, frame[5], frame[7]);
     [
-        front8(q, frame[0], frame[2], frame[4], frame[6]),
-        front8(q, frame[1], frame[2], frame[5], frame[7]),
+        front8(q, frame[0], frame[2], left),
+        front8(q, frame[1], frame[2], right),
         frame[2],
         frame[3],
-        both(q, frame[4], frame[6]),
-        both(q, frame[5], frame[7]),
+        left,
+        right,
         frame[6],
         frame[7],
     ]
@@ -118,44 +120,60 @@ fn low_bits(frame: &[i32; 8]) -> u8
     low_bit(frame[2]) + 2 * low_bit(frame[3]) + 4 * low_bit(frame[4]) + 8 * low_bit(frame[5])
 }
 
+/// What Bypass codes of a frame.
+pub fn bypass(frame: &[i32; 8]) -> CodedFrame
+    ensures { result ≡ record { values = coded_bypass frame.now; bypass = bypass_of Mix.Bypass frame.now } }
+{
+    CodedFrame {
+        values: without_low_bits(frame),
+        bypass: low_bits(frame),
+    }
+}
+
 /// The coded channels of Side.
-fn side(q: u8, frame: &[i32; 8]) -> [i32; 8]
-    requires first { IsSample q (at frame.now 0) }
-    requires second { IsSample q (at frame.now 1) }
+pub fn side(q: u8, frame: &[i32; 8]) -> [i32; 8]
+    requires { AreSamples q 2 frame.now }
     ensures { result ≡ coded_side frame.now }
 {
     [frame[0], frame[1] - frame[0], 0, 0, 0, 0, 0, 0]
+}
+
+/// Coded channels without bypassed bits.
+fn values_alone(values: [i32; 8]) -> CodedFrame
+    ensures { result ≡ record { values = values; bypass = 0 } }
+{
+    CodedFrame { values, bypass: 0 }
+}
+
+/// What is coded of a frame.
+fn coded_frame(mix: Mix, depth: u8, channels: u8, frame: &[i32; 8]) -> CodedFrame
+    requires profile { AreMixed mix depth channels }
+    requires samples { AreSamples (24 - depth) channels frame.now }
+    ensures { result ≡ coded_frame mix (24 - depth) channels frame.now }
+{
+    let q = 24 - depth;
+    match mix {
+        Mix::Split => values_alone(shown(channels, frame)),
+        Mix::Fold => {
+            if channels == 6 {
+                return values_alone(fold6(q, frame));
+            }
+            values_alone(fold8(q, frame))
+        }
+        Mix::Bypass => bypass(frame),
+        Mix::Side => values_alone(side(q, frame)),
+    }
 }
 
 /// What is coded of a frame of PCM: the channels of all substreams, 0 past the last one, and the bypassed bits.
 /// The frame's values have 24 signed bits, the low `24 - depth` of them 0.
 pub fn coded(mix: Mix, depth: u8, channels: u8, frame: &[i32; 8]) -> CodedFrame
     requires profile { AreMixed mix depth channels }
-    requires samples { (c : ℕ) → c < channels → IsSample (24 - depth) (at frame.now c) }
-    ensures values { result.values ≡ coded_of mix (24 - depth) channels frame.now }
-    ensures bypass { result.bypass ≡ bypass_of mix frame.now }
+    requires samples { AreSamples (24 - depth) channels frame.now }
+    ensures value { result ≡ coded_frame mix (24 - depth) channels frame.now }
+
+    // Each value has 26 signed bits.
+    ensures wide { IsCoded result }
 {
-    let q = 24 - depth;
-    match mix {
-        Mix::Split => CodedFrame {
-            values: shown(channels, frame),
-            bypass: 0,
-        },
-        Mix::Fold => {
-            let values = if channels == 6 {
-                fold6(q, frame)
-            } else {
-                fold8(q, frame)
-            };
-            CodedFrame { values, bypass: 0 }
-        }
-        Mix::Bypass => CodedFrame {
-            values: without_low_bits(frame),
-            bypass: low_bits(frame),
-        },
-        Mix::Side => CodedFrame {
-            values: side(q, frame),
-            bypass: 0,
-        },
-    }
+    coded_frame(mix, depth, channels, frame)
 }

@@ -1,6 +1,7 @@
 //! Mixes: how the channels of PCM frames are coded, and what each presentation of them is.
 #![tactic(auto)]
 
+mod blocks;
 mod coding;
 pub mod laws;
 mod matrices;
@@ -8,6 +9,7 @@ mod presenting;
 mod profile;
 mod sums;
 
+pub use blocks::{code_frames, present_frames};
 pub use coding::{CodedFrame, coded};
 pub use matrices::{rows, steps};
 pub use mlp_syntax::ProfileFault;

@@ -1,12 +1,13 @@
 //! What a presentation shows of a frame.
 
-ghost use Rattle.std.specs.Prelude.{◌≡◌, ◌≤◌, ◌<◌, ◌-◌, ℕ};
+ghost use Rattle.std.specs.Prelude.{◌≡◌, ◌≤◌, ◌<◌, ◌-◌, [], ◌∷◌, pos, ℕ};
 ghost use Rattle.mlp_fold.specs.Profile.{AreMixed};
-ghost use Rattle.mlp_fold.specs.Mix.{at, IsSample, channels_of, presented_of, presented_fold6, presented_fold8};
+ghost use Rattle.mlp_fold.specs.Mix.{at, Is26, AreSamples, channels_of, stereo, presented_of, presented_fold6, presented_fold8};
 
+use crate::coding;
 use crate::coding::shown;
 use crate::profile::Mix;
-use crate::sums::{front6, front8, halved, stereo};
+use crate::sums::{both, halved, stereo};
 
 /// The number of channels of presentation `k`, as far as its frames have them.
 fn channels_of(k: u8) -> u8
@@ -19,35 +20,52 @@ fn channels_of(k: u8) -> u8
     }
 }
 
+/// The stereo presentation of coded channels.
+fn stereo_pair(q: u8, coded: &[i32; 8]) -> [i32; 8]
+    requires q { q ≤ 8 }
+    requires left { Is26 (at coded.now 0) }
+    requires right { Is26 (at coded.now 1) }
+    ensures { result ≡ stereo q (at coded.now 0) ∷ stereo q (at coded.now 1) ∷ pos 0 ∷ pos 0 ∷ pos 0 ∷ pos 0 ∷ pos 0 ∷ pos 0 ∷ [] }
+{
+    [stereo(q, coded[0]), stereo(q, coded[1]), 0, 0, 0, 0, 0, 0]
+}
+
 /// The presentations of Fold with six channels.
 fn fold6(q: u8, k: u8, frame: &[i32; 8]) -> [i32; 8]
     requires q { q ≤ 8 }
-    requires samples { (c : ℕ) → c < 6 → IsSample q (at frame.now c) }
+    requires samples { AreSamples q 6 frame.now }
     ensures { result ≡ presented_fold6 q k frame.now }
 {
     if k == 0 {
-        let left = front6(q, frame[0], frame[2], frame[4]);
-        let right = front6(q, frame[1], frame[2], frame[5]);
-        return [stereo(q, left), stereo(q, right), 0, 0, 0, 0, 0, 0];
+        return stereo_pair(q, &coding::fold6(q, frame));
     }
     shown(6, frame)
+}
+
+/// The six-channel presentation of Fold with eight channels.
+fn six_of_eight(q: u8, frame: &[i32; 8]) -> [i32; 8]
+    requires q { q ≤ 8 }
+    requires samples { AreSamples q 8 frame.now }
+    ensures { result ≡ presented_fold8 q 1 frame.now }
+{
+    let left_sum = both(q, frame[4], frame[6]);
+    let right_sum = both(q, frame[5], frame[7]);
+    let left = halved(q, left_sum);
+    let right = halved(q, right_sum);
+    [frame[0], frame[1], frame[2], frame[3], left, right, 0, 0]
 }
 
 /// The presentations of Fold with eight channels.
 fn fold8(q: u8, k: u8, frame: &[i32; 8]) -> [i32; 8]
     requires q { q ≤ 8 }
-    requires samples { (c : ℕ) → c < 8 → IsSample q (at frame.now c) }
+    requires samples { AreSamples q 8 frame.now }
     ensures { result ≡ presented_fold8 q k frame.now }
 {
     if k == 0 {
-        let left = front8(q, frame[0], frame[2], frame[4], frame[6]);
-        let right = front8(q, frame[1], frame[2], frame[5], frame[7]);
-        return [stereo(q, left), stereo(q, right), 0, 0, 0, 0, 0, 0];
+        return stereo_pair(q, &coding::fold8(q, frame));
     }
     if k == 1 {
-        let left = halved(q, frame[4], frame[6]);
-        let right = halved(q, frame[5], frame[7]);
-        return [frame[0], frame[1], frame[2], frame[3], left, right, 0, 0];
+        return six_of_eight(q, frame);
     }
     shown(8, frame)
 }
@@ -56,7 +74,7 @@ fn fold8(q: u8, k: u8, frame: &[i32; 8]) -> [i32; 8]
 /// low `24 - depth` of them 0.
 pub fn presented(mix: Mix, depth: u8, channels: u8, k: u8, frame: &[i32; 8]) -> [i32; 8]
     requires profile { AreMixed mix depth channels }
-    requires samples { (c : ℕ) → c < channels → IsSample (24 - depth) (at frame.now c) }
+    requires samples { AreSamples (24 - depth) channels frame.now }
     ensures { result ≡ presented_of mix (24 - depth) channels k frame.now }
 {
     let q = 24 - depth;

@@ -15,12 +15,14 @@ pub enum Mix {
 }
 
 impl Mix {
-    ghost use Rattle.std.specs.Prelude.{◌≡◌};
-    ghost use Rattle.mlp_fold.specs.Profile.{suits};
+    ghost use Rattle.std.specs.Prelude.{◌≡◌, ◌≤◌, IsTrue};
+    ghost use Rattle.mlp_fold.specs.Profile.{suits, IsShape};
 
-    /// Whether the mix suits so many channels of so many bits.
+    /// Whether the mix suits so many channels of so many bits. With at most eight channels and 16 to 24 bits that is
+    /// all that coding asks for.
     pub fn suits(self, channels: u8, depth: u8) -> bool
-        ensures { result ≡ suits self channels depth }
+        ensures value { result ≡ suits self channels depth }
+        ensures shape { IsTrue result → channels ≤ 8 → IsShape self channels depth }
     {
         match self {
             Mix::Split => true,
@@ -44,8 +46,8 @@ pub struct Profile {
 }
 
 impl Profile {
-    ghost use Rattle.std.specs.Prelude.{◌≡◌};
-    ghost use Rattle.mlp_fold.specs.Profile.{checked, has_channels, has_rate, has_depth};
+    ghost use Rattle.std.specs.Prelude.{◌≡◌, IfOk};
+    ghost use Rattle.mlp_fold.specs.Profile.{checked, has_channels, has_rate, has_depth, AreMixed};
 
     /// Whether there are 2, 6 or 8 channels, 8 in TrueHD alone.
     fn has_channels(&self) -> bool
@@ -78,9 +80,11 @@ impl Profile {
         self.depth == 16 || self.depth == 20 || self.depth == 24
     }
 
-    /// Whether it can be encoded: the first of channels, rate, depth and mix that isn't so is the fault.
+    /// Whether it can be encoded: the first of channels, rate, depth and mix that isn't so is the fault. What passes
+    /// can be coded and presented.
     pub fn check(&self) -> Result<(), ProfileFault>
-        ensures { result ≡ checked self.now }
+        ensures value { result ≡ checked self.now }
+        ensures mixed { IfOk result (λ _. AreMixed self.now.mix self.now.depth self.now.channels) }
     {
         if !self.has_channels() {
             return Err(ProfileFault::Channels);

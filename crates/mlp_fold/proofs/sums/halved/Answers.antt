@@ -1,4 +1,4 @@
-use Rattle.std.proofs.Common.{ℤ, ◌+ℤ◌, FitsSigned, w32, w64, arith}
+use Rattle.std.proofs.Common.{◌≡◌, ℤ, FitsSigned, w32, w64, arith, ◌∙◌}
 use Rattle.std.proofs.lemmas.Int.{ints, to_z-of_z, int_wrap_fits}
 use Rattle.mlp_fold.specs.Mix.{halved}
 use Rattle.mlp_fold.proofs.Samples.{halved_fits}
@@ -6,15 +6,12 @@ use Rattle.mlp_fold.proofs.sums.halved.Goals as goal
 
 pub returns : goal.returns
 returns c =
-    let z : ℤ = c.args.surround +ℤ c.args.back in
+    let z : ℤ = c.args.coded in
     let wide : FitsSigned w64 z = omega (arith, ints) in
-    let fits : FitsSigned w32 (halved c.args.q z) = halved_fits c.args.q z c.requires.q (omega (arith, ints, c.requires.surround.low, c.requires.back.low)) (omega (arith, ints, c.requires.surround.high, c.requires.back.high)) in
+    let word : c.from.result ≡ z = c.from.ensures ∙ to_z-of_z w32 z c.ranges.coded in
+    let fits : FitsSigned w32 (halved c.args.q z) = halved_fits c.args.q z c.requires.q c.requires.coded.low c.requires.coded.high in
     cc (
-      c.both.ensures,
-      to_z-of_z w32 c.args.surround c.ranges.surround,
-      to_z-of_z w32 c.args.back c.ranges.back,
-      to_z-of_z w32 c.both.result (record { sfits = c.both.type_inv }),
-      c.from.ensures,
+      word,
       to_z-of_z w64 z wide,
       c.floor_by.ensures,
       to_z-of_z w64 c.floor_by.result (record { sfits = c.floor_by.type_inv }),

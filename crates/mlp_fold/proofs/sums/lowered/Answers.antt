@@ -27,8 +27,8 @@ overflow_sub-from c =
     rw (to_z-of_z w64 c.from.result (rw word wide), to_z-of_z w64 c.clear.result (record { sfits = c.clear.type_inv }), word, second)
     (omega (arith, ints, d1, d2))
 
-whole : goal.returns-clause-value
-whole c =
+pub returns : goal.returns
+returns c =
     let v : ℤ = c.args.value in
     let d : ℤ = lowered c.args.q v c.args.sum in
     let d1 = low c.args.q v c.args.sum c.requires.q c.requires.value c.requires.low c.requires.high in
@@ -50,12 +50,3 @@ whole c =
       c.wrap.ensures,
       int_wrap_fits w32 d fits,
     )
-
-pub returns-clause-value : goal.returns-clause-value
-returns-clause-value c = whole c
-
-pub returns-clause-low : goal.returns-clause-low
-returns-clause-low c = rw (whole c) (low c.args.q c.args.value c.args.sum c.requires.q c.requires.value c.requires.low c.requires.high)
-
-pub returns-clause-high : goal.returns-clause-high
-returns-clause-high c = rw (whole c) (high c.args.q c.args.value c.args.sum c.requires.q c.requires.value c.requires.low c.requires.high)

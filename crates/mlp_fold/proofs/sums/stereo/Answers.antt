@@ -6,11 +6,11 @@ use Rattle.mlp_fold.proofs.sums.stereo.Goals as goal
 
 pub returns : goal.returns
 returns c =
-    let z : ℤ = c.args.z in
+    let z : ℤ = c.args.coded in
     let wide : FitsSigned w64 z = omega (arith, ints) in
-    let wider : FitsSigned w64 (pos 6786 *ℤ z) = omega (arith, ints, c.requires.low, c.requires.high) in
-    let word : c.from.result ≡ z = c.from.ensures ∙ to_z-of_z w32 z c.ranges.z in
-    let fits : FitsSigned w32 (stereo c.args.q z) = stereo_fits c.args.q z c.requires.q c.requires.low c.requires.high in
+    let wider : FitsSigned w64 (pos 6786 *ℤ z) = omega (arith, ints, c.requires.coded.low, c.requires.coded.high) in
+    let word : c.from.result ≡ z = c.from.ensures ∙ to_z-of_z w32 z c.ranges.coded in
+    let fits : FitsSigned w32 (stereo c.args.q z) = stereo_fits c.args.q z c.requires.q c.requires.coded.low c.requires.coded.high in
     cc (
       word,
       to_z-of_z w64 z wide,
