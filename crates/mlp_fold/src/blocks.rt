@@ -9,13 +9,7 @@ use crate::presenting::presented;
 use crate::profile::Mix;
 
 /// Puts into `out`, which is as long as `frames`, what `coded` answers of each frame.
-pub fn code_frames(
-    mix: Mix,
-    depth: u8,
-    channels: u8,
-    frames: &[[i32; 8]],
-    out: &mut [CodedFrame],
-)
+pub fn code_frames(mix: Mix, depth: u8, channels: u8, frames: &[[i32; 8]], out: &mut [CodedFrame])
     requires profile { AreMixed mix depth channels }
     requires samples { All (AreSamples (24 - depth) channels) frames.now }
     requires count { length out.old ≡ length frames.now }

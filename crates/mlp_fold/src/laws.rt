@@ -1,12 +1,17 @@
 //! What holds of the mixes.
 
 ghost use Rattle.std.specs.Prelude.{◌≡◌, ◌≤◌, ◌-◌, ◌∷◌, ◌++◌, ℕ, List, ℤ, take};
-ghost use Rattle.mlp_matrix.specs.Matrix.{applied};
+ghost use Rattle.mlp_matrix.specs.Matrix.{applied, AreRows};
 ghost use Rattle.mlp_fold.specs.declared.profile.Mix.{Mix};
 ghost use Rattle.mlp_fold.specs.Profile.{AreMixed};
 ghost use Rattle.mlp_fold.specs.Mix.{at, Is24, AreSamples, channels_of, coded_of, bypass_of, presented_of};
 ghost use Rattle.mlp_fold.specs.Rows.{rows_of, steps_of};
 ghost use Rattle.mlp_fold.specs.Undone.{UndoesToCoded, UndoesToBits};
+
+/// The rows and steps of a substream can be applied to its channels.
+pub fn law_rows()
+    ensures { (mix : Mix) (depth channels k : ℕ) → AreMixed mix depth channels → channels_of k ≤ channels → AreRows (rows_of mix k channels) (steps_of mix (24 - depth) k) (channels_of k) }
+{}
 
 /// The rows of a substream make of the coded channels up to it, whatever stands behind them, its presentation.
 pub fn law_mixes()

@@ -10,7 +10,7 @@ use crate::profile::Mix;
 use crate::sums::{both, halved, stereo};
 
 /// The number of channels of presentation `k`, as far as its frames have them.
-fn channels_of(k: u8) -> u8
+pub fn channels_of(k: u8) -> u8
     ensures { result ≡ channels_of k }
 {
     match k {
