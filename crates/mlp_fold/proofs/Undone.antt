@@ -13,7 +13,7 @@ use Rattle.mlp_fold.specs.declared.profile.Mix.{Mix}
 use Rattle.mlp_fold.specs.declared.profile.Mix.TheVariants.{Split, Fold, Bypass, Side}
 use Rattle.mlp_fold.specs.Profile.{AreMixed}
 use Rattle.mlp_fold.specs.Mix.{at, Is26, IsSample, AreSamples, channels_of, shown, lowered, front6, front8, coded_of, coded_fold6, coded_fold8, coded_bypass, coded_side, bypass_of}
-use Rattle.mlp_fold.specs.Rows.{row, left, right, on2, on3, on4, on5, side_row, rows_of, fold_rows, bypass_rows, steps_of, steps_by, bypass_steps}
+use Rattle.mlp_fold.specs.Rows.{row, left, right, on, side_row, rows_of, fold_rows, bypass_rows, steps_of, steps_by, bypass_steps}
 use Rattle.mlp_fold.specs.Undone.{row_undone, row_bit, undone, undone_bits, UndoesToCoded, UndoesToBits}
 use Rattle.mlp_fold.proofs.Mixes.{dot_one2, dot_one3, dot_one4, dot_one5}
 use Rattle.mlp_fold.proofs.Bounds.{front6-26, front8-26}
@@ -146,17 +146,17 @@ fold8_undone q x more l h =
 
 pub bypass_undone : (q : ℕ) (x more : List ℤ) → AreSamples q 6 x → undone (bypass_rows 1) (bypass_steps 1) (shown 6 x ++ more) ≡ coded_bypass x ++ more
 bypass_undone q x more h =
-    let e5 = undone_alone q (at x 5) (dot (weights (row 5 0 true (on5 (pos 1)))) (at x 0 ∷ at x 1 ∷ at x 2 ∷ at x 3 ∷ at x 4 ∷ pos 0 ∷ pos 0 ∷ pos 0 ∷ more)) (h 5 (omega arith)) (dot_one5 (at x 0) (at x 1) (at x 2) (at x 3) (at x 4) (pos 0) (pos 0) (pos 0) more) in
+    let e5 = undone_alone q (at x 5) (dot (weights (row 5 0 true (on 5 (pos 1)))) (at x 0 ∷ at x 1 ∷ at x 2 ∷ at x 3 ∷ at x 4 ∷ pos 0 ∷ pos 0 ∷ pos 0 ∷ more)) (h 5 (omega arith)) (dot_one5 (at x 0) (at x 1) (at x 2) (at x 3) (at x 4) (pos 0) (pos 0) (pos 0) more) in
     let z5 : ℤ = clear 1 (at x 5) in
-    let e4 = undone_alone q (at x 4) (dot (weights (row 4 0 true (on4 (pos 1)))) (at x 0 ∷ at x 1 ∷ at x 2 ∷ at x 3 ∷ pos 0 ∷ z5 ∷ pos 0 ∷ pos 0 ∷ more)) (h 4 (omega arith)) (dot_one4 (at x 0) (at x 1) (at x 2) (at x 3) (pos 0) z5 (pos 0) (pos 0) more) in
+    let e4 = undone_alone q (at x 4) (dot (weights (row 4 0 true (on 4 (pos 1)))) (at x 0 ∷ at x 1 ∷ at x 2 ∷ at x 3 ∷ pos 0 ∷ z5 ∷ pos 0 ∷ pos 0 ∷ more)) (h 4 (omega arith)) (dot_one4 (at x 0) (at x 1) (at x 2) (at x 3) (pos 0) z5 (pos 0) (pos 0) more) in
     let z4 : ℤ = clear 1 (at x 4) in
-    let e3 = undone_alone q (at x 3) (dot (weights (row 3 0 true (on3 (pos 1)))) (at x 0 ∷ at x 1 ∷ at x 2 ∷ pos 0 ∷ z4 ∷ z5 ∷ pos 0 ∷ pos 0 ∷ more)) (h 3 (omega arith)) (dot_one3 (at x 0) (at x 1) (at x 2) (pos 0) z4 z5 (pos 0) (pos 0) more) in
+    let e3 = undone_alone q (at x 3) (dot (weights (row 3 0 true (on 3 (pos 1)))) (at x 0 ∷ at x 1 ∷ at x 2 ∷ pos 0 ∷ z4 ∷ z5 ∷ pos 0 ∷ pos 0 ∷ more)) (h 3 (omega arith)) (dot_one3 (at x 0) (at x 1) (at x 2) (pos 0) z4 z5 (pos 0) (pos 0) more) in
     let z3 : ℤ = clear 1 (at x 3) in
-    let e2 = undone_alone q (at x 2) (dot (weights (row 2 0 true (on2 (pos 1)))) (at x 0 ∷ at x 1 ∷ pos 0 ∷ z3 ∷ z4 ∷ z5 ∷ pos 0 ∷ pos 0 ∷ more)) (h 2 (omega arith)) (dot_one2 (at x 0) (at x 1) (pos 0) z3 z4 z5 (pos 0) (pos 0) more) in
-    let r2 : MatrixRow = row 2 0 true (on2 (pos 1)) in
-    let r3 : MatrixRow = row 3 0 true (on3 (pos 1)) in
-    let r4 : MatrixRow = row 4 0 true (on4 (pos 1)) in
-    let r5 : MatrixRow = row 5 0 true (on5 (pos 1)) in
+    let e2 = undone_alone q (at x 2) (dot (weights (row 2 0 true (on 2 (pos 1)))) (at x 0 ∷ at x 1 ∷ pos 0 ∷ z3 ∷ z4 ∷ z5 ∷ pos 0 ∷ pos 0 ∷ more)) (h 2 (omega arith)) (dot_one2 (at x 0) (at x 1) (pos 0) z3 z4 z5 (pos 0) (pos 0) more) in
+    let r2 : MatrixRow = row 2 0 true (on 2 (pos 1)) in
+    let r3 : MatrixRow = row 3 0 true (on 3 (pos 1)) in
+    let r4 : MatrixRow = row 4 0 true (on 4 (pos 1)) in
+    let r5 : MatrixRow = row 5 0 true (on 5 (pos 1)) in
     let last : undone (r5 ∷ []) (bypass_steps 1) (shown 6 x ++ more) ≡ at x 0 ∷ at x 1 ∷ at x 2 ∷ at x 3 ∷ at x 4 ∷ z5 ∷ pos 0 ∷ pos 0 ∷ more =
     ap (λ (v : ℤ). at x 0 ∷ at x 1 ∷ at x 2 ∷ at x 3 ∷ at x 4 ∷ v ∷ pos 0 ∷ pos 0 ∷ more) e5 in
     let third : undone (r4 ∷ r5 ∷ []) (bypass_steps 1) (shown 6 x ++ more) ≡ at x 0 ∷ at x 1 ∷ at x 2 ∷ at x 3 ∷ z4 ∷ z5 ∷ pos 0 ∷ pos 0 ∷ more =

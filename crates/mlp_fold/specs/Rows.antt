@@ -1,5 +1,5 @@
 -- The rows and steps of the mixes. In substreams 0 and 1 two noise sources stand behind the channels.
-use Rattle.std.specs.Prelude.{ℕ, zero, suc, ◌==◌, List, [], ◌∷◌, ℤ, pos, negsuc, Bool, true, false, Option, Some, None, if◌then◌else◌}
+use Rattle.std.specs.Prelude.{ℕ, zero, suc, ◌==◌, List, [], ◌∷◌, slice_set, ℤ, pos, negsuc, Bool, true, false, Option, Some, None, if◌then◌else◌}
 use Rattle.mlp_syntax.specs.declared.params.MatrixRow.{MatrixRow}
 use Rattle.mlp_fold.specs.declared.profile.Mix.{Mix}
 use Rattle.mlp_fold.specs.declared.profile.Mix.TheVariants.{Split, Fold, Bypass, Side}
@@ -7,18 +7,9 @@ use Rattle.mlp_fold.specs.declared.profile.Mix.TheVariants.{Split, Fold, Bypass,
 abbrev pub row : ℕ → ℕ → Bool → List (Option ℤ) → MatrixRow
 row dest frac bypass coeffs = record { dest = dest; frac = frac; bypass = bypass; coeffs = record { items = coeffs }; noise_shift = 0 }
 
--- a coefficient on one of eight sources
-abbrev pub on2 : ℤ → List (Option ℤ)
-on2 c = None ∷ None ∷ Some c ∷ None ∷ None ∷ None ∷ None ∷ None ∷ []
-
-abbrev pub on3 : ℤ → List (Option ℤ)
-on3 c = None ∷ None ∷ None ∷ Some c ∷ None ∷ None ∷ None ∷ None ∷ []
-
-abbrev pub on4 : ℤ → List (Option ℤ)
-on4 c = None ∷ None ∷ None ∷ None ∷ Some c ∷ None ∷ None ∷ None ∷ []
-
-abbrev pub on5 : ℤ → List (Option ℤ)
-on5 c = None ∷ None ∷ None ∷ None ∷ None ∷ Some c ∷ None ∷ None ∷ []
+-- eight sources, and a coefficient on one of them
+abbrev pub on : ℕ → ℤ → List (Option ℤ)
+on channel c = slice_set (None ∷ None ∷ None ∷ None ∷ None ∷ None ∷ None ∷ None ∷ []) channel (Some c)
 
 -- a front channel with centre and a surround channel
 abbrev pub left : ℤ → List (Option ℤ)
@@ -32,7 +23,7 @@ fold_rows zero channels = row 0 14 false (Some (pos 6786) ∷ None ∷ None ∷ 
 fold_rows (suc zero) channels =
     if channels == 6
     then row 0 14 false (left (negsuc 11584)) ∷ row 1 14 false (right (negsuc 11584)) ∷ []
-    else row 0 14 false (left (negsuc 5792)) ∷ row 1 14 false (right (negsuc 5792)) ∷ row 4 14 false (on4 (pos 8192)) ∷ row 5 14 false (on5 (pos 8192)) ∷ []
+    else row 0 14 false (left (negsuc 5792)) ∷ row 1 14 false (right (negsuc 5792)) ∷ row 4 14 false (on 4 (pos 8192)) ∷ row 5 14 false (on 5 (pos 8192)) ∷ []
 fold_rows (suc (suc k)) channels =
     row 0 14 false (left (negsuc 5792)) ∷ row 1 14 false (right (negsuc 5792))
     ∷ row 4 14 false (None ∷ None ∷ None ∷ None ∷ Some (pos 16384) ∷ None ∷ Some (negsuc 16383) ∷ None ∷ [])
@@ -40,7 +31,7 @@ fold_rows (suc (suc k)) channels =
 
 abbrev pub bypass_rows : ℕ → List MatrixRow
 bypass_rows zero = []
-bypass_rows (suc k) = row 2 0 true (on2 (pos 1)) ∷ row 3 0 true (on3 (pos 1)) ∷ row 4 0 true (on4 (pos 1)) ∷ row 5 0 true (on5 (pos 1)) ∷ []
+bypass_rows (suc k) = row 2 0 true (on 2 (pos 1)) ∷ row 3 0 true (on 3 (pos 1)) ∷ row 4 0 true (on 4 (pos 1)) ∷ row 5 0 true (on 5 (pos 1)) ∷ []
 
 abbrev pub side_row : MatrixRow
 side_row = row 1 0 false (Some (pos 1) ∷ Some (pos 1) ∷ None ∷ None ∷ [])

@@ -1,7 +1,7 @@
 //! The rows and steps of the mixes.
 
-ghost use Rattle.std.specs.Prelude.{◌≡◌, ◌≤◌, ◌-◌, [], ◌∷◌, false, length};
-ghost use Rattle.mlp_fold.specs.Rows.{row, left, right, rows_of, fold_rows, bypass_rows, side_row, steps_of, steps_by, bypass_steps};
+ghost use Rattle.std.specs.Prelude.{◌≡◌, ◌≤◌, ◌<◌, ◌-◌, [], ◌∷◌, false, length};
+ghost use Rattle.mlp_fold.specs.Rows.{row, on, left, right, rows_of, fold_rows, bypass_rows, side_row, steps_of, steps_by, bypass_steps};
 
 use crate::profile::Mix;
 use arrayvec::ArrayVec;
@@ -23,6 +23,16 @@ fn row(dest: u8, frac: u8, bypass: bool, fields: &[Option<i32>]) -> MatrixRow
         coeffs,
         noise_shift: 0,
     }
+}
+
+/// A row of eight sources with one coefficient, on its own destination.
+fn own_row(channel: u8, frac: u8, bypass: bool, coefficient: i32) -> MatrixRow
+    requires { channel < 8 }
+    ensures { result ≡ row channel frac bypass (on channel coefficient) }
+{
+    let mut fields = [None; 8];
+    fields[usize::from(channel)] = Some(coefficient);
+    row(channel, frac, bypass, &fields)
 }
 
 /// The rows of the two front channels of Fold, where the surround channels have this coefficient.
@@ -79,18 +89,8 @@ fn fold_rows(substream: u8, channels: u8) -> ArrayVec<MatrixRow, 8>
     }
     front_rows(-5793, &mut rows);
     if substream == 1 {
-        rows.push(row(
-            4,
-            14,
-            false,
-            &[None, None, None, None, Some(8192), None, None, None],
-        ));
-        rows.push(row(
-            5,
-            14,
-            false,
-            &[None, None, None, None, None, Some(8192), None, None],
-        ));
+        rows.push(own_row(4, 14, false, 8192));
+        rows.push(own_row(5, 14, false, 8192));
         return rows;
     }
     rows.push(row(
@@ -134,30 +134,10 @@ fn bypass_rows(substream: u8) -> ArrayVec<MatrixRow, 8>
     if substream == 0 {
         return rows;
     }
-    rows.push(row(
-        2,
-        0,
-        true,
-        &[None, None, Some(1), None, None, None, None, None],
-    ));
-    rows.push(row(
-        3,
-        0,
-        true,
-        &[None, None, None, Some(1), None, None, None, None],
-    ));
-    rows.push(row(
-        4,
-        0,
-        true,
-        &[None, None, None, None, Some(1), None, None, None],
-    ));
-    rows.push(row(
-        5,
-        0,
-        true,
-        &[None, None, None, None, None, Some(1), None, None],
-    ));
+    rows.push(own_row(2, 0, true, 1));
+    rows.push(own_row(3, 0, true, 1));
+    rows.push(own_row(4, 0, true, 1));
+    rows.push(own_row(5, 0, true, 1));
     rows
 }
 
