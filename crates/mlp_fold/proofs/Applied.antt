@@ -1,6 +1,6 @@
 -- The rows and steps of a substream are rows that can be applied.
-use Rattle.std.proofs.Common.{◌≡◌, ◌≢◌, ℕ, zero, suc, ◌+◌, ◌-◌, ◌<◌, ◌≤◌, List, [], ◌∷◌, length, ℤ, pos, negsuc, Bool, true, false, arith, refl, sym, subst, inl, inr}
-use Rattle.std.specs.Prelude.{◌&&◌, nat_lt, nat_le, slice_index_or, All}
+use Rattle.std.proofs.Common.{◌≡◌, ℕ, zero, suc, ◌-◌, ◌<◌, ◌≤◌, List, [], ◌∷◌, length, ℤ, pos, negsuc, Bool, true, false, arith, refl, sym, subst, inl, inr}
+use Rattle.std.specs.Prelude.{◌&&◌, nat_lt, nat_le, All}
 use Rattle.std.proofs.lemmas.Int.{ints}
 use Rattle.std.proofs.lemmas.Bool.{ltb-true, leb-true}
 use Rattle.std.proofs.lemmas.Bool.Decides.{eqb_tells}

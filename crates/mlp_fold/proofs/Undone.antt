@@ -1,5 +1,5 @@
 -- The rows of the top substream, undone from the last to the first, make the coded channels of a frame of PCM.
-use Rattle.std.proofs.Common.{◌≡◌, ◌≢◌, ℕ, zero, suc, ◌+◌, ◌-◌, ◌*◌, ◌<◌, ◌≤◌, List, [], ◌∷◌, ◌++◌, ℤ, pos, negsuc, neg_ℤ, ◌+ℤ◌, ◌-ℤ◌, ◌*ℤ◌, ◌≤ℤ◌, ◌<ℤ◌, Bool, true, false, cond, FitsSigned, w32, arith, refl, sym, ◌∙◌, ap, subst, inl, inr}
+use Rattle.std.proofs.Common.{◌≡◌, ℕ, zero, suc, ◌-◌, ◌≤◌, List, [], ◌∷◌, ◌++◌, ℤ, pos, negsuc, neg_ℤ, ◌+ℤ◌, ◌-ℤ◌, ◌*ℤ◌, Bool, true, false, cond, w32, arith, refl, sym, ◌∙◌, ap, subst, inl, inr}
 use Rattle.std.specs.Prelude.{Some, None, not, ◌⊎◌}
 use Rattle.mlp_syntax.specs.declared.params.MatrixRow.{MatrixRow}
 use Rattle.std.proofs.lemmas.Int.{ints, int_wrap_fits}
@@ -12,9 +12,9 @@ use Rattle.mlp_matrix.specs.Matrix.{weights, is_even}
 use Rattle.mlp_fold.specs.declared.profile.Mix.{Mix}
 use Rattle.mlp_fold.specs.declared.profile.Mix.TheVariants.{Split, Fold, Bypass, Side}
 use Rattle.mlp_fold.specs.Profile.{AreMixed}
-use Rattle.mlp_fold.specs.Mix.{at, Is26, IsSample, AreSamples, channels_of, shown, lowered, front6, front8, coded_of, coded_fold6, coded_fold8, coded_bypass, coded_side, bypass_of}
-use Rattle.mlp_fold.specs.Rows.{row, left, right, on, side_row, rows_of, fold_rows, bypass_rows, steps_of, steps_by, bypass_steps}
-use Rattle.mlp_fold.specs.Undone.{row_undone, row_bit, undone, undone_bits, UndoesToCoded, UndoesToBits}
+use Rattle.mlp_fold.specs.Mix.{at, Is26, IsSample, AreSamples, channels_of, shown, lowered, front6, front8, coded_fold6, coded_fold8, coded_bypass, coded_side, bypass_of}
+use Rattle.mlp_fold.specs.Rows.{row, left, right, on, side_row, fold_rows, bypass_rows, steps_by, bypass_steps}
+use Rattle.mlp_fold.specs.Undone.{row_undone, undone, undone_bits, UndoesToCoded, UndoesToBits}
 use Rattle.mlp_fold.proofs.Mixes.{dot_one2, dot_one3, dot_one4, dot_one5}
 use Rattle.mlp_fold.proofs.Bounds.{front6-26, front8-26}
 

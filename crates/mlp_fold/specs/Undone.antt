@@ -1,10 +1,9 @@
 -- The rows of a substream undone, from the last to the first: what an encoder does to a frame of PCM.
-use Rattle.std.specs.Prelude.{◌≡◌, ℕ, ◌+◌, ◌-◌, ◌*◌, List, [], ◌∷◌, ◌++◌, slice_set, ℤ, Bool, cond}
+use Rattle.std.specs.Prelude.{◌≡◌, ℕ, ◌+◌, ◌*◌, List, [], ◌∷◌, ◌++◌, slice_set, ℤ, cond}
 use Rattle.mlp_syntax.specs.declared.params.MatrixRow.{MatrixRow}
 use Rattle.mlp_matrix.specs.Matrix.{weights, step_of, lifted, bypassed}
 use Rattle.mlp_fold.specs.declared.profile.Mix.{Mix}
-use Rattle.mlp_fold.specs.Profile.{AreMixed}
-use Rattle.mlp_fold.specs.Mix.{at, AreSamples, channels_of, shown, coded_of, bypass_of}
+use Rattle.mlp_fold.specs.Mix.{at, shown, coded_of, bypass_of}
 use Rattle.mlp_fold.specs.Rows.{rows_of, steps_of}
 
 -- one row: its destination takes the value of which the row makes the old one

@@ -1,9 +1,9 @@
 //! What is coded of a frame.
 
-ghost use Rattle.std.specs.Prelude.{◌≡◌, ◌≤◌, ◌<◌, ◌-◌, ℕ};
+ghost use Rattle.std.specs.Prelude.{◌≡◌, ◌≤◌, ◌<◌, ◌-◌};
 ghost use Rattle.mlp_arith.specs.Words.{clear};
 ghost use Rattle.mlp_fold.specs.Profile.{AreMixed};
-ghost use Rattle.mlp_fold.specs.Mix.{at, IsSample, AreSamples, IsCoded, place, shown, coded_of, coded_fold6, coded_fold8, coded_bypass, coded_side, coded_frame, bypass_of, low_bit};
+ghost use Rattle.mlp_fold.specs.Mix.{AreSamples, IsCoded, place, shown, coded_fold6, coded_fold8, coded_bypass, coded_side, coded_frame, bypass_of, low_bit};
 
 use crate::profile::Mix;
 use crate::sums::{both, front6, front8};

@@ -1,6 +1,6 @@
 //! What a presentation shows of a frame.
 
-ghost use Rattle.std.specs.Prelude.{◌≡◌, ◌≤◌, ◌<◌, ◌-◌, [], ◌∷◌, pos, ℕ};
+ghost use Rattle.std.specs.Prelude.{◌≡◌, ◌≤◌, ◌-◌, [], ◌∷◌, pos};
 ghost use Rattle.mlp_fold.specs.Profile.{AreMixed};
 ghost use Rattle.mlp_fold.specs.Mix.{at, Is26, AreSamples, channels_of, stereo, presented_of, presented_fold6, presented_fold8};
 

@@ -1,4 +1,4 @@
-use Rattle.std.proofs.Common.{◌≡◌, ◌-◌, ◌≤◌, ℕ, length, map, arith, sym, ◌∙◌, ap}
+use Rattle.std.proofs.Common.{◌-◌, ◌≤◌, length, map, arith, sym, ◌∙◌, ap}
 use Rattle.std.proofs.lemmas.List.{take_all}
 use Rattle.mlp_fold.specs.Mix.{coded_frame}
 use Rattle.mlp_fold.proofs.Bounds.{all_coded}
