@@ -1,3 +1,4 @@
 pub mod MajorLaws
 pub mod SyncReading
 pub mod SyncWriting
+pub mod SyncFitting

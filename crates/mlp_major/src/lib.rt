@@ -1,6 +1,7 @@
 //! The major sync of an access unit. Source: Dolby TrueHD (MLP) high-level bitstream description, "major_sync_info".
 #![tactic(auto)]
 
+mod fitting;
 mod format;
 pub mod laws;
 mod rate;
@@ -8,6 +9,7 @@ mod reading;
 mod rules;
 mod writing;
 
+pub use fitting::fits;
 pub use rate::{frames_per_unit, sample_rate};
 pub use reading::{read_major, read_sync};
 pub use writing::write_major;
