@@ -3,9 +3,10 @@ pub mod BlockLaws
 pub mod SegmentLaws
 pub mod RestartReading
 pub mod ReadingLaws
-pub mod StepLaws
 pub mod EndLaws
 pub mod WritingParts
 pub mod WritingBlocks
 pub mod WritingEnds
 pub mod RoundTrip
+pub mod BlockCounts
+pub mod KnownLaws

@@ -114,7 +114,7 @@ force_starts place force = refl
 
 -- ---- what is in force in a block that is read
 
-least_size : (s : State) → IsState s → 8 ≤ s.block_size
+pub least_size : (s : State) → IsState s → 8 ≤ s.block_size
 unfolding ruled
 least_size s h = leb-true 8 s.block_size (first_of (leb 8 s.block_size) (leb s.block_size s.unit_frames) (rule_holds _ 0 h.block_size.meets.1))
   where

@@ -1,11 +1,11 @@
 //! Reading the blocks of a segment.
-ghost use Rattle.std.specs.Prelude.{◌≡◌, ◌+◌, ◌≤◌, ◌<◌, ◌++◌, [], ℕ, List, Ok, Err, IfOk, OnOk, IfSome, MatchResult, Option, true, length, drop};
+ghost use Rattle.std.specs.Prelude.{◌≡◌, ◌+◌, ◌≤◌, ◌<◌, ◌++◌, [], ℕ, List, Ok, Err, IfOk, OnOk, IfSome, MatchResult, Option, true, length};
 ghost use Rattle.arrayvec.specs.ArrayVec.{array_vec_len};
 ghost use Rattle.mlp_syntax.specs.declared.segment.FrameCode.{FrameCode};
 ghost use Rattle.mlp_syntax.specs.declared.fault.Field.TheVariants.{BlockOverrun};
 ghost use Rattle.mlp_layout.specs.Combined.{up_to_last};
 ghost use Rattle.mlp_params.specs.States.{IsState};
-ghost use Rattle.mlp_residual.specs.Frames.{frames_of, steps_below, GivesBehind};
+ghost use Rattle.mlp_residual.specs.Frames.{frames_of, GivesBehind};
 ghost use Rattle.mlp_substream.specs.Blocks.{against, steps_fit_in, after_head, block, after_block, force_after, At, Block, FitsPlace, IsPlace};
 ghost use Rattle.mlp_substream.specs.Segment.{heads_of, codes_of, most_blocks};
 
@@ -14,32 +14,17 @@ use crate::known::{Known, Place};
 use arrayvec::ArrayVec;
 use mlp_bits::BitReader;
 use mlp_layout::{broken, flag};
-use mlp_params::{ChannelState, State};
-use mlp_residual::read_frames;
+use mlp_params::State;
+use mlp_residual::{read_frames, steps_fit};
 use mlp_syntax::{BlockHead, Broken, Field, FrameCode, Segment};
 
-/// Whether each channel from one on has at least as many low bits as its step.
-fn steps_below(least: usize, steps: &[u8], channels: &[ChannelState]) -> bool
-    ensures { result ≡ steps_below (drop least steps.now) (drop least channels.now) }
-{
-    for i in least..steps.len() {
-        if i >= channels.len() {
-            return true;
-        }
-        if steps[i] > channels[i].low {
-            return false;
-        }
-    }
-    true
-}
-
 /// Whether each channel that the substream codes has at least as many low bits as its step.
-fn steps_fit(state: &Option<State>) -> bool
+fn have_steps_fit(state: &Option<State>) -> bool
     ensures { result ≡ steps_fit_in state.now }
 {
     match state {
         None => true,
-        Some(state) => steps_below(state.restart.min as usize, &state.steps, &state.channels),
+        Some(state) => steps_fit(state),
     }
 }
 
@@ -85,7 +70,7 @@ fn read_block(
 {
     let head = read_head(place, known, due, state, r)?;
     let at = r.place();
-    if !steps_fit(state) {
+    if !have_steps_fit(state) {
         return Err(broken(Field::StepTooLarge, at));
     }
     if codes.len() + usize::from(head.frames) > usize::from(place.unit_frames) {

@@ -3,7 +3,7 @@ ghost use Rattle.std.specs.Prelude.{◌≡◌, ◌≤◌, IfOk, IfSome, OnOk, le
 ghost use Rattle.mlp_substream.specs.Blocks.{FitsPlace, IsPlace};
 ghost use Rattle.mlp_syntax.specs.declared.major.Kind.TheVariants.{Fba};
 
-use crate::laws::{law_reread, law_segment};
+use crate::laws::{law_blocks, law_known, law_reread, law_segment, law_written};
 use crate::{Ending, Known, Place, read_segment, read_segment_into, write_segment};
 use mlp_layout::broken;
 use mlp_params::State;
@@ -19,6 +19,12 @@ const FIRST: [u8; 24] = [
 const ENDED: [u8; 30] = [
     0xF1, 0xEA, 0x0E, 0x10, 0x01, 0x10, 0, 0, 0, 0, 0, 0, 0, 0, 0, 0x03, 0x98, 0x08, 0x01, 0x00,
     0x12, 0x20, 0x04, 0x00, 0xD2, 0x34, 0x20, 0x27, 0xF8, 0x98,
+];
+
+/// A restart and 20 blocks of 8 frames of no bits, of 160 frames a unit, and checks.
+const TWENTY: [u8; 28] = [
+    0xF1, 0xEA, 0x0E, 0x10, 0x01, 0x10, 0, 0, 0, 0, 0, 0, 0, 0, 0, 0x03, 0x98, 0x08, 0x01, 0, 0, 0,
+    0, 0, 0, 0x80, 0xAF, 0x6A,
 ];
 
 fn stereo(major: bool) -> Place
@@ -53,8 +59,29 @@ fn write_again(
     Ok(answer)
 }
 
+/// Whether a segment that is the first of its substream is written as it was read, behind bytes that are there.
+fn is_written_again(place: &Place, bytes: &[u8], checked: bool) -> bool
+    requires size { length bytes.now ≤ 8190 }
+    requires place { IsPlace place.now }
+{
+    let mut reading: Option<State> = None;
+    let mut writing: Option<State> = None;
+    let mut out = UnitBytes::new();
+    out.push(7);
+    let answer = write_again(place, &mut reading, &mut writing, bytes, checked, &mut out);
+    answer == Ok(Ok(())) && out.first() == Some(&7) && out.as_slice().get(1..) == Some(bytes)
+}
+
 #[test]
 fn writes_segments(rt: HostRuntime) {
+    assert!(rt; is_written_again(&stereo(true), &FIRST, true));
+    assert!(rt; is_written_again(&stereo(true), &ENDED, true));
+    assert!(rt; is_written_again(&stereo(true), &FIRST[..22], false));
+    assert!(rt; is_written_again(&stereo(true), &ENDED[..28], false));
+}
+
+#[test]
+fn writes_segments_behind_others(rt: HostRuntime) {
     let mut reading: Option<State> = None;
     let mut writing: Option<State> = None;
     let mut out = UnitBytes::new();
@@ -69,7 +96,6 @@ fn writes_segments(rt: HostRuntime) {
     ) else {
         panic!(rt; "the first segment is written");
     };
-    assert_eq!(rt; out.as_slice(), FIRST.as_slice());
     let Ok(Ok(())) = write_again(
         &stereo(false),
         &mut reading,
@@ -78,15 +104,66 @@ fn writes_segments(rt: HostRuntime) {
         true,
         &mut out,
     ) else {
-        panic!(rt; "so is the second, behind it");
+        panic!(rt; "so is the second, by what the first put in force");
     };
     assert_eq!(rt; out.len(), 28);
     assert_eq!(rt; &out[24..28], second.as_slice());
 }
 
 #[test]
+fn writes_twenty_blocks(rt: HostRuntime) {
+    let place = Place {
+        format: Kind::Fba,
+        unit_frames: 160,
+        major: true,
+    };
+    law_blocks();
+    assert!(rt; is_written_again(&place, &TWENTY, true));
+    let mut state: Option<State> = None;
+    let Ok(segment) = read_segment(&place, &mut state, &TWENTY, true) else {
+        panic!(rt; "it is a segment");
+    };
+    assert_eq!(rt; segment.blocks.len(), 20);
+    assert_eq!(rt; segment.codes.len(), 160);
+    let mut more = TWENTY;
+    more[25] = 0x20;
+    more[26] = 0x0F;
+    more[27] = 0xCA;
+    let mut state: Option<State> = None;
+    assert_eq!(rt;
+        read_segment(&place, &mut state, &more, true).err(),
+        Some(broken(Field::BlockOverrun, 202))
+    );
+}
+
+#[test]
+fn refuses_what_is_too_long(rt: HostRuntime) {
+    for (before, after, answer) in [(8166, 8190, Ok(())), (8167, 8167, Err(UnitTooLong))] {
+        let mut reading: Option<State> = None;
+        let mut writing: Option<State> = None;
+        let mut out = UnitBytes::new();
+        for _ in 0..before {
+            let _full = out.try_push(9);
+        }
+        let written = write_again(
+            &stereo(true),
+            &mut reading,
+            &mut writing,
+            &FIRST,
+            true,
+            &mut out,
+        );
+        assert_eq!(rt; written, Ok(answer));
+        assert_eq!(rt; out.len(), after);
+        assert_eq!(rt; out[8165], 9);
+    }
+}
+
+#[test]
 fn reads_segments(rt: HostRuntime) {
     law_segment();
+    law_written();
+    law_known();
     let mut state: Option<State> = None;
     let Ok(first) = read_segment(&stereo(true), &mut state, &FIRST, true) else {
         panic!(rt; "the first segment is one");

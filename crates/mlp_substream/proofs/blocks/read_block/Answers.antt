@@ -11,16 +11,16 @@ returns-in_err-head-clause-read c =
     let p = err_from_is_err_and c.from_residual.result c.from_residual.ensures.1 in
     rw (p.1, p.2) (block_head_fails c.args.place.now c.args.known.now (at_of c.args.state.now (length c.args.codes.now.items) c.args.due) c.args.r.now.all c.args.r.now.place c.in_err-head.field-0.0 c.in_err-head.ensures.read)
 
-pub returns-then-not-steps_fit-clause-read : goal.returns-then-not-steps_fit-clause-read
-returns-then-not-steps_fit-clause-read c =
+pub returns-then-not-have_steps_fit-clause-read : goal.returns-then-not-have_steps_fit-clause-read
+returns-then-not-have_steps_fit-clause-read c =
     let h = c.in_ok-head.ensures in
-    let late = ap steps_fit_in (sym h.force) ∙ sym c.steps_fit.ensures ∙ c.if-not-steps_fit.true in
+    let late = ap steps_fit_in (sym h.force) ∙ sym c.have_steps_fit.ensures ∙ c.if-not-have_steps_fit.true in
     rw (c.broken.ensures, c.place-at.ensures.value) (block_step_fails c.args.place.now c.args.known.now (at_of c.args.state.now (length c.args.codes.now.items) c.args.due) c.args.r.now.all c.args.r.now.place c.in_ok-head.head c.read_head.new.r.place h.read.0 late)
 
 pub returns-then-len-from-clause-read : goal.returns-then-len-from-clause-read
 returns-then-len-from-clause-read c =
     let h = c.in_ok-head.ensures in
-    let fit = ap steps_fit_in (sym h.force) ∙ sym c.steps_fit.ensures ∙ c.if-not-steps_fit.false in
+    let fit = ap steps_fit_in (sym h.force) ∙ sym c.have_steps_fit.ensures ∙ c.if-not-have_steps_fit.false in
     let full : c.args.place.now.unit_frames < length c.args.codes.now.items + c.in_ok-head.head.frames = omega arith in
     rw (c.broken-then-len-from.ensures, c.place-at.ensures.value) (block_overruns c.args.place.now c.args.known.now (at_of c.args.state.now (length c.args.codes.now.items) c.args.due) c.args.r.now.all c.args.r.now.place c.in_ok-head.head c.read_head.new.r.place h.read.0 fit full)
 
@@ -29,7 +29,7 @@ returns-in_err-read_codes-clause-read c =
     let p = err_from_is_err_and c.from_residual-in_err-read_codes.result c.from_residual-in_err-read_codes.ensures.1 in
     let h = c.in_ok-head.ensures in
     let n = c.in_ok-head.head.frames in
-    let fit = ap steps_fit_in (sym h.force) ∙ sym c.steps_fit.ensures ∙ c.if-not-steps_fit.false in
+    let fit = ap steps_fit_in (sym h.force) ∙ sym c.have_steps_fit.ensures ∙ c.if-not-have_steps_fit.false in
     let room : length c.args.codes.now.items + n ≤ c.args.place.now.unit_frames = omega arith in
     let here = subst (λ (b : List Bool). (against c.read_head.new.state (λ s. frames_of s n)).read b c.read_head.new.r.place ≡ Err c.in_err-read_codes.field-0.0) h.read.1 c.in_err-read_codes.ensures.read in
     let there = subst (λ (s : Option State). (against s (λ s. frames_of s n)).read c.args.r.now.all c.read_head.new.r.place ≡ Err c.in_err-read_codes.field-0.0) h.force here in
@@ -39,7 +39,7 @@ pub returns-clause-read : goal.returns-clause-read
 returns-clause-read c =
     let h = c.in_ok-head.ensures in
     let n = c.in_ok-head.head.frames in
-    let fit = ap steps_fit_in (sym h.force) ∙ sym c.steps_fit.ensures ∙ c.if-not-steps_fit.false in
+    let fit = ap steps_fit_in (sym h.force) ∙ sym c.have_steps_fit.ensures ∙ c.if-not-have_steps_fit.false in
     let room : length c.args.codes.now.items + n ≤ c.args.place.now.unit_frames = omega arith in
     let more = appended c.args.codes.now.items c.read_codes.new.codes.items c.read_codes.new.r.place _ c.in_ok-read_codes.ensures.read.0 in
     let here = subst (λ (b : List Bool). (against c.read_head.new.state (λ s. frames_of s n)).read b c.read_head.new.r.place ≡ Ok (more.items, c.read_codes.new.r.place)) h.read.1 more.read_is in

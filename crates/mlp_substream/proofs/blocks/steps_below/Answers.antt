@@ -1,6 +1,0 @@
-use Rattle.std.proofs.Common.{sym, ◌∙◌, arith}
-use Rattle.mlp_substream.proofs.StepLaws.{channels_end}
-use Rattle.mlp_substream.proofs.blocks.steps_below.Goals as goal
-
-pub returns-then-i-channels : goal.returns-then-i-channels
-returns-then-i-channels c = sym (channels_end c.args.steps.now c.args.channels.now c.loop-i.i (omega arith)) ∙ c.loop-i.invariant
