@@ -5,4 +5,5 @@ pub mod SegmentReading
 pub mod Closed
 pub mod Framed
 pub mod NextUnit
+pub mod UnitMeaning
 pub mod AnswerLaws

@@ -1,8 +1,9 @@
 -- The session of `decode-raw` answers as the definition of streams says.
-use Rattle.std.proofs.Common.{◌≡◌, ◌≢◌, ℕ, zero, suc, ◌<◌, ◌++◌, ◌==◌, not, ◌&&◌, if◌then◌else◌, Bool, true, false, List, [], ◌∷◌, length, take, drop, Result, Ok, Err, Option, Some, None, IfSome, is_none, ◌⊎◌, inl, inr, refl, sym, ap, subst, ◌∙◌, arith, append_assoc, length-drop}
+use Rattle.std.proofs.Common.{◌≡◌, ◌≢◌, ℕ, zero, suc, ◌<◌, ◌++◌, ◌==◌, not, ◌&&◌, if◌then◌else◌, Bool, true, false, List, [], ◌∷◌, length, take, drop, Result, Ok, Err, Option, Some, None, IfSome, ◌⊎◌, inl, inr, refl, sym, ap, subst, ◌∙◌, arith, append_assoc, length-drop}
 use Rattle.std.proofs.lemmas.Bool.{lt-leb, le-leb}
 use Rattle.std.proofs.lemmas.Bool.Decides.{nat_tests}
 use Rattle.std.proofs.lemmas.List.{append-nil}
+use Rattle.std.proofs.lemmas.Grind.{flat_map-append}
 use Rattle.mlp_syntax.specs.declared.fault.Fault.{Fault}
 use Rattle.mlp_bits.specs.Bits.{bits_of}
 use Rattle.mlp_bits.proofs.BitLists.{length-bits_of}
@@ -11,9 +12,10 @@ use Rattle.mlp_layout.proofs.StreamLaws.{left_more, more_left, begins_none}
 use Rattle.mlp_present.specs.declared.refusal.Refusal.{Refusal as Declined}
 use Rattle.mlp_present.specs.declared.refusal.Refusal.TheVariants as declined
 use Rattle.mlp_present.specs.FirstForm.{not_built, RawUnit, Left, start, first_form}
-use Rattle.mlp_present.specs.Samples.{samples}
+use Rattle.mlp_present.specs.Samples.{rows_of, samples}
 use Rattle.mlp_present.specs.Decoding.{Held, Taken, opened, next_of, is_open}
 use Rattle.mlp_present.proofs.FormLaws.{form_is}
+use Rattle.mlp_present.proofs.UnitMeaning.{count_of, synced, samples_on, FromUnit, from_unit, unit_within, begins_on, exists_from, FaultFrom, fault_from, NoneFrom, none_from, nothing_fails}
 use Rattle.mlp_stream.specs.declared.stop.Stop.{Stop}
 use Rattle.mlp_stream.specs.declared.stop.Stop.TheVariants.{Usage, Refused, ReadFault, WriteFault, OutOfMemory, TooLong}
 use Rattle.mlp_stream.specs.Moves.{Waits}
@@ -21,11 +23,9 @@ use Rattle.mlp_stream.specs.Sizes.{limit}
 use Rattle.mlp_stream.specs.Streams.{Outcome, after as with_front, on_move, run_for, outcome, answer, soon, at_end}
 use Rattle.mlp_stream.specs.Pumped as pumped
 use Rattle.mlp_stream.specs.Pumped.{Pumped, IsAnswer}
-use Rattle.mlp_tool.specs.Pcm.{pcm_bytes}
+use Rattle.mlp_tool.specs.Pcm.{pcm_bytes, row_bytes}
 use Rattle.mlp_tool.specs.Decoding.{on_unit, decode_step, decode_last}
-use Rattle.mlp_tool.specs.SessionLaws.{FromUnit, from_unit, unit_within}
 use Rattle.mlp_tool.specs.Decoded.{pcm_of, IsThere, Opens, IsDecided, Broke, Answers, Answer, Wrote, Decoded}
-use Rattle.mlp_tool.proofs.UnitLaws.{count_of, synced, pcm_more, begins_on, FaultFrom, fault_from, NoneFrom, none_from, exists_from, nothing_fails}
 
 -- the decoder behind these units
 abbrev pub behind : ℕ → List RawUnit → Held
@@ -55,7 +55,7 @@ left_on : (us : List RawUnit) (rest : List ℕ) (t : Taken) (f : FromUnit (left_
 left_on us rest t f = f.left_is ∙ sym (left_more first_form form_is start us (f.unit ∷ []))
 
 pcm_on : (us : List RawUnit) (rest : List ℕ) (t : Taken) (f : FromUnit (left_after first_form start us) rest t) → pcm_of (us ++ f.unit ∷ []) ≡ pcm_of us ++ pcm_bytes 2 t.rows
-pcm_on us rest t f = pcm_more us f.unit ∙ ap (λ (l : _). pcm_of us ++ pcm_bytes 2 l) (sym f.rows)
+pcm_on us rest t f = ap (pcm_bytes 2) (samples_on us f.unit) ∙ flat_map-append (row_bytes 2) (samples start us) (rows_of (left_after first_form start us) f.unit) ∙ ap (λ (l : _). pcm_of us ++ pcm_bytes 2 l) (sym f.rows)
 
 -- what a move makes of the rest, given what later moves make of theirs
 Later : Bool → ℕ → List ℕ → List RawUnit → ℕ → List ℕ → Type 0
@@ -63,10 +63,6 @@ Later ended k bytes us turns rest = (t : Taken) → next_of k (left_after first_
 
 some_bits : (rest : List ℕ) → 0 < length rest → bits_of rest ≢ []
 some_bits rest l e = omega (arith, ap length e, length-bits_of rest)
-
-no_first : (all : _) (us : List RawUnit) (rest : _) → Begins first_form start all us rest → is_none (left_after first_form start us).sync ≡ true → us ≡ []
-no_first all [] rest b e = refl
-no_first all (u ∷ us) rest b e = let known = synced all u us rest b in absurd cc
 
 at_first : (k : ℕ) (rest : List ℕ) (fault : Fault) → fault.unit ≡ 0 → OuterFails first_form start (bits_of rest) (in_unit fault) ⊎ Exists first_form start k (bits_of rest) → ((fault.unit ≡ 0) × OuterFails first_form start (bits_of rest) (in_unit fault)) ⊎ Exists first_form start k (bits_of rest)
 at_first k rest fault none (inl outer) = inl (none, outer)
@@ -112,10 +108,7 @@ pcm_none = unfold samples in refl
 
 -- the first unit tells too few presentations
 none_here : (ended : Bool) (k : ℕ) (bytes : List ℕ) (us : List RawUnit) (rest : List ℕ) (n : ℕ) → Opens k bytes us rest → IsDecided ended rest → NoneFrom k (left_after first_form start us) rest n → NoPres first_form start k (bits_of bytes) n × IsDecided ended bytes × (pcm_of us ++ [] ≡ [])
-none_here ended k bytes (u ∷ us) rest n b d f = let known = synced (bits_of bytes) u us (bits_of rest) b.begins in absurd (no_more (sym known ∙ f.first))
-  where
-    no_more : false ≡ true → ⊥
-    no_more e = cc
+none_here ended k bytes (u ∷ us) rest n b d f = let none : u ∷ us ≡ [] = synced (bits_of bytes) (u ∷ us) (bits_of rest) b.begins f.first in absurd cc
 none_here ended k bytes [] rest n b d f =
     let here : bits_of bytes ≡ bits_of rest = unfold Begins in b.begins in
     ((subst (λ (l : List Bool). Has first_form start l n) (sym here) f.has, f.missing), decided_same ended bytes rest here d, append-nil (pcm_of []) ∙ pcm_none)

@@ -1,4 +1,3 @@
-pub mod UnitLaws
 pub mod DecodeLaws
 pub mod RunLaws
 pub mod OneAnswer
