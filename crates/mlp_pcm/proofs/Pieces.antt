@@ -1,6 +1,7 @@
 -- Values read one after the other.
 use Rattle.std.proofs.Common.{◌≡◌, ℕ, zero, suc, ◌+◌, ◌-◌, ◌*◌, ◌<◌, ◌≤◌, List, [], ◌∷◌, ◌++◌, length, take, drop, set, get_or, replicate, ℤ, pos, arith, refl, sym, ◌∙◌, ap, subst, Bool, true, false, IsTrue}
 use Rattle.std.specs.List.{list_all}
+use Rattle.std.proofs.Math.Nat.{mul-le-mul, mul-le-mul_right}
 use Rattle.std.proofs.lemmas.Grind.{common_steps}
 use Rattle.std.proofs.lemmas.List.{take_more_set, drop-set-lt, drop-drop, length-drop, drop-replicate, append_assoc, append-nil, take-append-drop, take_at, get_or_at, length-append}
 use Rattle.mlp_pcm.specs.Samples.{pieces, IsFirstFailing}
@@ -85,3 +86,10 @@ first_failing test value size n i items rest all h l done clear fails =
       },
       t,
     )
+
+-- there is room for a piece more
+pub one_more_fits : (n i size : ℕ) → i < n → i * size + size ≤ n * size
+one_more_fits n i size h = let m : suc i * size ≡ i * size + size = grind arith in omega (arith, m, mul-le-mul_right {m = suc i} {n = n} size h)
+
+pub all_fit : (n size : ℕ) → n ≤ 160 → size ≤ 24 → n * size ≤ 3840
+all_fit n size h k = omega (arith, mul-le-mul {n₁ = n} {m₁ = size} {n₂ = 160} {m₂ = 24} h k)

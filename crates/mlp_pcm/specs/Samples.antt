@@ -1,5 +1,5 @@
 -- Raw PCM: frames one after the other, channels in order, samples little-endian and signed.
-use Rattle.std.specs.Prelude.{◌≡◌, ℕ, zero, suc, ◌-◌, ◌*◌, ◌/◌, ◌%◌, ◌^◌, ◌<◌, ◌==◌, ℤ, pos, ◌*ℤ◌, Bool, false, List, [], ◌∷◌, ◌++◌, length, take, drop, replicate, slice_index_or, if◌then◌else◌, IsTrue}
+use Rattle.std.specs.Prelude.{◌≡◌, ℕ, zero, suc, ◌-◌, ◌*◌, ◌/◌, ◌%◌, ◌^◌, ◌<◌, ◌==◌, ℤ, pos, neg_ℤ, ◌*ℤ◌, ◌≤ℤ◌, ◌<ℤ◌, ◌⊎◌, ◌≤◌, All, Bool, false, List, [], ◌∷◌, ◌++◌, length, take, drop, replicate, slice_index_or, if◌then◌else◌, IsTrue}
 use Rattle.std.specs.Int.{w64, cast_unsigned}
 use Rattle.std.specs.List.{list_all, flat_map}
 use Rattle.byteorder.specs.Endian.{little_number, little_bytes, twos_complement, low_bytes}
@@ -45,3 +45,43 @@ row_bytes bits channels row = flat_map (sample_bytes bits) (take channels row)
 -- the bytes of all frames
 abbrev pub packed : ℕ → ℕ → List (List ℤ) → List ℕ
 packed bits channels rows = flat_map (row_bytes bits channels) rows
+
+-- the widths and depths of samples
+abbrev pub IsForm : ℕ → ℕ → Type 0
+IsForm width depth = ((width ≡ 2) × (depth ≡ 16)) ⊎ ((width ≡ 3) × ((depth ≡ 20) ⊎ (depth ≡ 24)))
+
+-- bytes of whole frames
+pub record AreFrames (width channels : ℕ) (bytes : List ℕ) : Type 0 where
+  pub small : All (λ (b : ℕ). b < 256) bytes
+  pub whole : length bytes % (channels * width) ≡ 0
+
+-- 24 signed bits
+pub record Is24 (v : ℤ) : Type 0 where
+  pub low : neg_ℤ (pos (2 ^ 23)) ≤ℤ v
+  pub high : v <ℤ pos (2 ^ 23)
+
+-- a row that has samples of so many channels and this depth, and 0 in the other places
+pub record IsRow (depth channels : ℕ) (row : List ℤ) : Type 0 where
+  pub eight : length row ≡ 8
+  pub samples : All Is24 row
+  pub clear : IsTrue (are_clear depth row)
+  pub rest : drop channels row ≡ replicate (8 - channels) (pos 0)
+
+-- what `pack` asks of a row
+abbrev pub is_packable : ℕ → ℕ → List ℤ → Bool
+is_packable bits channels row = are_clear bits (take channels row)
+
+-- packed are the bytes from which rows were unpacked, and `pack` accepts these rows
+abbrev pub PackedIsUnpacked : Type 0
+PackedIsUnpacked = (width depth channels : ℕ) (bytes : List ℕ) → IsForm width depth → 1 ≤ channels → channels ≤ 8 → AreFrames width channels bytes
+    → (packed (8 * width) channels (rows_in width channels bytes) ≡ bytes) × IsTrue (list_all (is_packable (8 * width) channels) (rows_in width channels bytes))
+
+-- rows that `unpack` accepts are rows of that depth
+abbrev pub UnpackedAreRows : Type 0
+UnpackedAreRows = (width depth channels : ℕ) (bytes : List ℕ) → IsForm width depth → 1 ≤ channels → channels ≤ 8 → AreFrames width channels bytes
+    → IsTrue (list_all (are_clear depth) (rows_in width channels bytes)) → All (IsRow depth channels) (rows_in width channels bytes)
+
+-- unpacked are the rows that were packed, whose bytes are whole frames, and `unpack` accepts them
+abbrev pub UnpackedIsPacked : Type 0
+UnpackedIsPacked = (width depth channels : ℕ) (rows : List (List ℤ)) → IsForm width depth → 1 ≤ channels → channels ≤ 8 → All (IsRow depth channels) rows
+    → (rows_in width channels (packed (8 * width) channels rows) ≡ rows) × AreFrames width channels (packed (8 * width) channels rows) × IsTrue (list_all (are_clear depth) rows)

@@ -1,6 +1,7 @@
 //! PCM samples as bytes, and the headers of WAVE files.
 #![tactic(auto)]
 
+mod laws;
 mod samples;
 mod wave_bytes;
 mod wave_chunks;
@@ -8,6 +9,7 @@ mod wave_format;
 mod wave_header;
 mod wave_reader;
 
+pub use laws::law_samples;
 pub use mlp_syntax::{PcmFault, ProfileFault, WaveField};
 pub use samples::{pack, unpack};
 pub use wave_bytes::WaveRefusal;

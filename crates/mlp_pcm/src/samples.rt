@@ -18,7 +18,7 @@ fn sample(bytes: &[u8], width: u8) -> i32
     if width == 2 {
         i32::from(LittleEndian::read_i16(bytes)) * 256
     } else {
-        LittleEndian::read_i24(bytes)
+        i32::from(LittleEndian::read_i16(&bytes[1..])) * 256 + i32::from(bytes[0])
     }
 }
 
@@ -63,25 +63,24 @@ fn all_clear(samples: &[i32], depth: u8) -> bool
     samples.iter().all(|sample| clear(*sample, depth))
 }
 
-/// Replaces `out` by the frames of these bytes, which have whole frames of 1 to 8 channels, at most 160. A sample has 2
-/// bytes at depth 16, and 3 bytes at depths 20 and 24.
-///
-/// # Errors
-///
-/// The number of the first frame that has a sample whose low bits, which its depth doesn't have, are not 0. `out` then has
-/// the frames before it.
+/// Puts the frames of these bytes into `out`, which has none, up to the first that has a sample whose low bits aren't 0.
+#[inline]
 #[tactic(auto, unfolding(crate::specs::Samples::pieces))]
-pub fn unpack(bytes: &[u8], width: u8, depth: u8, channels: u8, out: &mut Frames) -> Result<(), u32>
+fn unpack_frames(
+    bytes: &[u8],
+    width: u8,
+    depth: u8,
+    channels: u8,
+    out: &mut Frames,
+) -> Result<(), u32>
     requires form { ((width ≡ 2) × (depth ≡ 16)) ⊎ ((width ≡ 3) × ((depth ≡ 20) ⊎ (depth ≡ 24))) }
     requires channels { (1 ≤ channels) × (channels ≤ 8) }
-    requires whole { length bytes.now % (channels * width) ≡ 0 }
     requires few { length bytes.now / (channels * width) ≤ 160 }
-    ensures channels { out.new.channels ≡ channels }
+    requires empty { out.old.rows.items ≡ [] }
+    ensures channels { out.new.channels ≡ out.old.channels }
     ensures ok { OnOk result ((out.new.rows.items ≡ rows_in width channels bytes.now) × IsTrue (list_all (are_clear depth) (rows_in width channels bytes.now))) }
     ensures err { IfErr result (λ i. IsFirstFailing (are_clear depth) (rows_in width channels bytes.now) i × (out.new.rows.items ≡ take i (rows_in width channels bytes.now))) }
 {
-    out.channels = channels;
-    out.rows.clear();
     let size = channels as usize * width as usize;
     let count = bytes.len() / size;
     let mut rest = bytes;
@@ -96,31 +95,145 @@ pub fn unpack(bytes: &[u8], width: u8, depth: u8, channels: u8, out: &mut Frames
     Ok(())
 }
 
-/// Puts a sample's bytes behind the others.
+/// The same, with a loop of its own for two channels.
+#[inline]
+fn unpack_channels(
+    bytes: &[u8],
+    width: u8,
+    depth: u8,
+    channels: u8,
+    out: &mut Frames,
+) -> Result<(), u32>
+    requires form { ((width ≡ 2) × (depth ≡ 16)) ⊎ ((width ≡ 3) × ((depth ≡ 20) ⊎ (depth ≡ 24))) }
+    requires channels { (1 ≤ channels) × (channels ≤ 8) }
+    requires few { length bytes.now / (channels * width) ≤ 160 }
+    requires empty { out.old.rows.items ≡ [] }
+    ensures channels { out.new.channels ≡ out.old.channels }
+    ensures ok { OnOk result ((out.new.rows.items ≡ rows_in width channels bytes.now) × IsTrue (list_all (are_clear depth) (rows_in width channels bytes.now))) }
+    ensures err { IfErr result (λ i. IsFirstFailing (are_clear depth) (rows_in width channels bytes.now) i × (out.new.rows.items ≡ take i (rows_in width channels bytes.now))) }
+{
+    if channels == 2 {
+        return unpack_frames(bytes, width, depth, 2, out);
+    }
+    unpack_frames(bytes, width, depth, channels, out)
+}
+
+/// Replaces `out` by the frames of these bytes, which have whole frames of 1 to 8 channels, at most 160. A sample has 2
+/// bytes at depth 16, and 3 bytes at depths 20 and 24.
+///
+/// # Errors
+///
+/// The number of the first frame that has a sample whose low bits, which its depth doesn't have, are not 0. `out` then has
+/// the frames before it.
+pub fn unpack(bytes: &[u8], width: u8, depth: u8, channels: u8, out: &mut Frames) -> Result<(), u32>
+    requires form { ((width ≡ 2) × (depth ≡ 16)) ⊎ ((width ≡ 3) × ((depth ≡ 20) ⊎ (depth ≡ 24))) }
+    requires channels { (1 ≤ channels) × (channels ≤ 8) }
+    requires whole { length bytes.now % (channels * width) ≡ 0 }
+    requires few { length bytes.now / (channels * width) ≤ 160 }
+    ensures channels { out.new.channels ≡ channels }
+    ensures ok { OnOk result ((out.new.rows.items ≡ rows_in width channels bytes.now) × IsTrue (list_all (are_clear depth) (rows_in width channels bytes.now))) }
+    ensures err { IfErr result (λ i. IsFirstFailing (are_clear depth) (rows_in width channels bytes.now) i × (out.new.rows.items ≡ take i (rows_in width channels bytes.now))) }
+{
+    out.channels = channels;
+    out.rows.clear();
+    match depth {
+        16 => unpack_channels(bytes, 2, 16, channels, out),
+        20 => unpack_channels(bytes, 3, 20, channels, out),
+        _ => unpack_channels(bytes, 3, 24, channels, out),
+    }
+}
+
+/// Writes a sample's bytes from a place on, and says where they end.
+#[inline]
 #[tactic(auto, unfolding(crate::specs::Samples::sample_bytes))]
-fn put_sample(sample: i32, bits: u8, out: &mut ArrayVec<u8, 3840>)
-    requires { array_vec_len out.old + 3 ≤ 3840 }
-    ensures bytes { out.new.items ≡ out.old.items ++ sample_bytes bits sample }
-    ensures most { array_vec_len out.new ≤ array_vec_len out.old + 3 }
+fn put_sample(sample: i32, bits: u8, place: usize, out: &mut [u8]) -> usize
+    requires { place + 3 ≤ length out.old }
+    ensures bytes { take result out.new ≡ take place out.old ++ sample_bytes bits sample }
+    ensures most { (place ≤ result) × (result ≤ place + 3) }
+    ensures length { length out.new ≡ length out.old }
 {
     let mut piece = [0; 3];
     LittleEndian::write_i24(&mut piece, sample);
-    if bits != 16 {
-        out.push(piece[0]);
+    if bits == 16 {
+        out[place] = piece[1];
+        out[place + 1] = piece[2];
+        return place + 2;
     }
-    out.push(piece[1]);
-    out.push(piece[2]);
+    out[place..place + 3].copy_from_slice(&piece);
+    place + 3
 }
 
-/// Puts the bytes of all samples behind the others.
-fn put_samples(samples: &[i32], bits: u8, out: &mut ArrayVec<u8, 3840>)
-    requires { array_vec_len out.old + 3 * length samples.now ≤ 3840 }
-    ensures bytes { out.new.items ≡ out.old.items ++ flat_map (sample_bytes bits) samples.now }
-    ensures most { array_vec_len out.new ≤ array_vec_len out.old + 3 * length samples.now }
+/// Writes the bytes of all samples from a place on, and says where they end, and whether their low bits are 0.
+#[inline]
+fn put_samples(samples: &[i32], bits: u8, place: usize, out: &mut [u8]) -> (usize, bool)
+    requires bits { bits ≤ 24 }
+    requires room { place + 3 * length samples.now ≤ length out.old }
+    ensures bytes { take result.0 out.new ≡ take place out.old ++ flat_map (sample_bytes bits) samples.now }
+    ensures clear { result.1 ≡ are_clear bits samples.now }
+    ensures most { result.0 ≤ place + 3 * length samples.now }
+    ensures length { length out.new ≡ length out.old }
 {
+    let mut end = place;
+    let mut all_clear = true;
     for sample in samples {
-        put_sample(*sample, bits, out);
+        end = put_sample(*sample, bits, end, out);
+        all_clear &= clear(*sample, bits);
     }
+    (end, all_clear)
+}
+
+/// Puts the bytes of these frames into `out`, which has none, or leaves it where a frame has a sample whose low byte isn't 0.
+/// They are gathered in `bytes`.
+#[inline]
+#[tactic(auto, using(crate::proofs::Pieces::one_more_fits))]
+fn pack_frames(
+    rows: &[[i32; 8]],
+    channels: u8,
+    bits: u8,
+    bytes: &mut [u8],
+    out: &mut ArrayVec<u8, 3840>,
+) -> Result<(), u32>
+    requires bits { (bits ≡ 16) ⊎ (bits ≡ 24) }
+    requires channels { channels ≤ 8 }
+    requires room { length rows.now * (3 * channels) ≤ length bytes.old }
+    requires most { length bytes.old ≤ 3840 }
+    requires empty { out.old.items ≡ [] }
+    ensures ok { OnOk result ((out.new.items ≡ packed bits channels rows.now) × IsTrue (list_all (λ row. are_clear bits (take channels row)) rows.now)) }
+    ensures err { IfErr result (λ i. IsFirstFailing (λ row. are_clear bits (take channels row)) rows.now i × (out.new.items ≡ [])) }
+{
+    let mut end = 0;
+    for frame in 0..rows.len() {
+        let samples = &rows[frame][..channels as usize];
+        let (next, all_clear) = put_samples(samples, bits, end, bytes);
+        if !all_clear {
+            return Err(frame as u32);
+        }
+        end = next;
+    }
+    let _ = out.try_extend_from_slice(&bytes[..end]);
+    Ok(())
+}
+
+/// The same, with a loop of its own for two channels.
+#[inline]
+#[tactic(auto, using(crate::proofs::Pieces::all_fit))]
+fn pack_channels(
+    rows: &[[i32; 8]],
+    channels: u8,
+    bits: u8,
+    out: &mut ArrayVec<u8, 3840>,
+) -> Result<(), u32>
+    requires bits { (bits ≡ 16) ⊎ (bits ≡ 24) }
+    requires channels { channels ≤ 8 }
+    requires rows { length rows.now ≤ 160 }
+    requires empty { out.old.items ≡ [] }
+    ensures ok { OnOk result ((out.new.items ≡ packed bits channels rows.now) × IsTrue (list_all (λ row. are_clear bits (take channels row)) rows.now)) }
+    ensures err { IfErr result (λ i. IsFirstFailing (λ row. are_clear bits (take channels row)) rows.now i × (out.new.items ≡ [])) }
+{
+    if channels == 2 {
+        return pack_frames(rows, 2, bits, &mut [0; 960], out);
+    }
+    pack_frames(rows, channels, bits, &mut [0; 3840], out)
 }
 
 /// Replaces `out` by the bytes of these frames: 3 bytes a sample, or the upper 2 where `bits` is 16.
@@ -135,15 +248,9 @@ pub fn pack(frames: &Frames, bits: u8, out: &mut ArrayVec<u8, 3840>) -> Result<(
     ensures err { IfErr result (λ i. IsFirstFailing (λ row. are_clear bits (take frames.now.channels row)) frames.now.rows.items i × (out.new.items ≡ [])) }
 {
     out.clear();
-    let channels = frames.channels as usize;
     let rows = frames.rows.as_slice();
-    for frame in 0..rows.len() {
-        let samples = &rows[frame][..channels];
-        if !all_clear(samples, bits) {
-            out.clear();
-            return Err(frame as u32);
-        }
-        put_samples(samples, bits, out);
+    if bits == 16 {
+        return pack_channels(rows, frames.channels, 16, out);
     }
-    Ok(())
+    pack_channels(rows, frames.channels, 24, out)
 }

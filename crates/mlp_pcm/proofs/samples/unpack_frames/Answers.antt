@@ -3,7 +3,7 @@ use Rattle.std.proofs.lemmas.List.{length-append}
 use Rattle.std.specs.List.{list_all}
 use Rattle.mlp_pcm.specs.Samples.{row_in, pieces, are_clear}
 use Rattle.mlp_pcm.proofs.Pieces.{left_more, done_more, all_more, first_failing}
-use Rattle.mlp_pcm.proofs.samples.unpack.Goals as goal
+use Rattle.mlp_pcm.proofs.samples.unpack_frames.Goals as goal
 
 pub returns-then-not-all_clear-clause-err : goal.returns-then-not-all_clear-clause-err
 returns-then-not-all_clear-clause-err c =
