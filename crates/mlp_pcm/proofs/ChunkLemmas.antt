@@ -17,13 +17,13 @@ use Rattle.mlp_pcm.specs.WaveScan.{Answer, refused, unfinished, begins, chunk, c
 less : (a b : ℕ) → a < b → nat_lt a b ≡ true
 less a b h = grind (arith, nat_tests)
 
-not_less : (a b : ℕ) → b ≤ a → nat_lt a b ≡ false
+pub not_less : (a b : ℕ) → b ≤ a → nat_lt a b ≡ false
 not_less a b h = grind (arith, nat_tests)
 
-at_false : (b : Bool) (x y : Answer) → b ≡ false → cond b x y ≡ y
+pub at_false : (b : Bool) (x y : Answer) → b ≡ false → cond b x y ≡ y
 at_false b x y h = ap (λ t. cond t x y) h
 
-at_true : (b : Bool) (x y : Answer) → b ≡ true → cond b x y ≡ x
+pub at_true : (b : Bool) (x y : Answer) → b ≡ true → cond b x y ≡ x
 at_true b x y h = ap (λ t. cond t x y) h
 
 pub chunk_short : (go : Option Format → List ℕ → Answer) (seen : Option Format) (head xs : List ℕ) → starts_with nat_eq head (codes "data") ≡ false → length xs < padded (number_at 4 4 head) → chunk go seen head xs ≡ unfinished Chunk
@@ -108,7 +108,7 @@ pub header_short : (n : ℕ) (xs : List ℕ) → length xs < 12 → header n xs 
 unfolding header
 header_short n xs h = at_true (nat_lt (length xs) 12) (unfinished Riff) _ (less (length xs) 12 h)
 
-header_then : (n : ℕ) (riff rest : List ℕ) → length riff ≡ 12 → header n (riff ++ rest) ≡ cond (is_riff riff) (chunks n None rest) (refused Riff)
+pub header_then : (n : ℕ) (riff rest : List ℕ) → length riff ≡ 12 → header n (riff ++ rest) ≡ cond (is_riff riff) (chunks n None rest) (refused Riff)
 unfolding header
 header_then n riff rest l =
     at_false (nat_lt (length (riff ++ rest)) 12) (unfinished Riff) _ (not_less (length (riff ++ rest)) 12 (omega (arith, length-append riff rest)))

@@ -3,3 +3,4 @@ pub mod WaveHeader
 pub mod WaveFormat
 pub mod WaveScan
 pub mod WaveBytes
+pub mod WaveFile

@@ -1,4 +1,6 @@
 //! What holds of PCM as bytes, and of the headers of WAVE files.
+ghost use Rattle.std.specs.Prelude.{ℕ, List};
+ghost use Rattle.mlp_pcm.specs.WaveFile.{BeginsWhereWave, HasOneAnswer, StaysSo, WrittenIsRead};
 ghost use Rattle.mlp_pcm.specs.Samples.{PackedIsUnpacked, UnpackedAreRows, UnpackedIsPacked};
 
 /// At each width `unpack` and `pack` are inverse: bytes of whole frames are those of the rows that they were unpacked to, and
@@ -8,4 +10,18 @@ pub fn law_samples()
     ensures packed { PackedIsUnpacked }
     ensures rows { UnpackedAreRows }
     ensures unpacked { UnpackedIsPacked }
+{}
+
+/// Bytes say that a header begins exactly where they are RIFF, a size, WAVE, chunks of which the first that is named `fmt `
+/// says the format, and the head of the data. Each list of bytes has one answer, and bytes behind a header, or behind a
+/// wrong field, change nothing.
+pub fn law_header()
+    ensures begins { BeginsWhereWave }
+    ensures one { (bytes : List ℕ) → HasOneAnswer bytes }
+    ensures stays { StaysSo }
+{}
+
+/// A header that was written is read back, whatever stands behind it.
+pub fn law_written_header()
+    ensures { WrittenIsRead }
 {}

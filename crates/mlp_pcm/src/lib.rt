@@ -9,7 +9,7 @@ mod wave_format;
 mod wave_header;
 mod wave_reader;
 
-pub use laws::law_samples;
+pub use laws::{law_header, law_samples, law_written_header};
 pub use mlp_syntax::{PcmFault, ProfileFault, WaveField};
 pub use samples::{pack, unpack};
 pub use wave_bytes::WaveRefusal;

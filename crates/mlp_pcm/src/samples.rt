@@ -202,11 +202,11 @@ fn pack_frames(
     ensures err { IfErr result (λ i. IsFirstFailing (λ row. are_clear bits (take channels row)) rows.now i × (out.new.items ≡ [])) }
 {
     let mut end = 0;
-    for frame in 0..rows.len() {
-        let samples = &rows[frame][..channels as usize];
+    for index in 0..rows.len() {
+        let samples = &rows[index][..channels as usize];
         let (next, all_clear) = put_samples(samples, bits, end, bytes);
         if !all_clear {
-            return Err(frame as u32);
+            return Err(index as u32);
         }
         end = next;
     }

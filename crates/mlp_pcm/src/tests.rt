@@ -49,17 +49,18 @@ fn samples_are_signed_and_little_endian(rt: HostRuntime) {
     );
 }
 
-/// Reads the first bytes of a header with one byte changed, in pieces of 5 bytes.
+/// Reads the first bytes of a header with two bytes changed, in pieces of 5 bytes.
 fn read_changed(
     alloc: Global,
     length: usize,
     place: usize,
-    byte: u8,
+    changed: [u8; 2],
 ) -> Result<Result<WaveInfo, WaveRefusal>, AllocError>
-    requires { (length ≤ 68) × (place < 68) }
+    requires { (length ≤ 68) × (place < 67) }
 {
     let mut header = write_wave_header(2, 48000, 24, 6);
-    header[place] = byte;
+    header[place] = changed[0];
+    header[place + 1] = changed[1];
     let bytes = header[..length].to_vec(alloc)?;
     let mut source = MemSource::new(bytes, 5, Vec::new(alloc));
     Ok(read_wave_header(&mut source))
@@ -76,22 +77,44 @@ fn a_header_is_read_back_or_refused(rt: HostRuntime) -> Result<(), AllocError> {
         size: 6,
         taken: 68,
     };
-    assert_eq!(rt; read_changed(alloc, 68, 0, b'R')?, Ok(info));
+    assert_eq!(rt; read_changed(alloc, 68, 0, *b"RI")?, Ok(info));
     assert_eq!(rt;
-        read_changed(alloc, 11, 0, b'R')?,
+        read_changed(alloc, 11, 0, *b"RI")?,
         Err(WaveRefusal::Header(WaveField::Riff))
     );
     assert_eq!(rt;
-        read_changed(alloc, 43, 0, b'R')?,
+        read_changed(alloc, 43, 0, *b"RI")?,
         Err(WaveRefusal::Header(WaveField::Chunk))
     );
     assert_eq!(rt;
-        read_changed(alloc, 68, 20, 0x02)?,
+        read_changed(alloc, 68, 20, [0x02, 0x00])?,
         Err(WaveRefusal::Header(WaveField::Tag))
     );
     assert_eq!(rt;
-        read_changed(alloc, 68, 32, 0x07)?,
+        read_changed(alloc, 68, 32, [0x07, 0x00])?,
         Err(WaveRefusal::Header(WaveField::Align))
     );
+    Ok(())
+}
+
+/// A header with a chunk of odd size before the format, and a second format behind it.
+const CHUNKS: [u8; 68] =
+    *b"RIFF\0\0\0\0WAVELIST\x03\0\0\0abc\0fmt \x12\0\0\0\x01\0\x01\0\x44\xAC\0\0\0\0\0\0\x03\0\x14\0\0\0fmt \x01\0\0\0\x07\0data\x05\0\0\0";
+
+#[test]
+fn chunks_are_passed_over_byte_by_byte(rt: HostRuntime) -> Result<(), AllocError> {
+    let alloc = rt.alloc();
+    let info = WaveInfo {
+        channels: 1,
+        rate: 44100,
+        depth: 20,
+        width: 3,
+        size: 5,
+        taken: 68,
+    };
+    let mut source = MemSource::new(CHUNKS.to_vec(alloc)?, 1, Vec::new(alloc));
+    assert_eq!(rt; read_wave_header(&mut source), Ok(info));
+    let mut failing = MemSource::new(CHUNKS.to_vec(alloc)?, 1, vec![in alloc; 67]?);
+    assert_eq!(rt; read_wave_header(&mut failing), Err(WaveRefusal::Read));
     Ok(())
 }
