@@ -304,5 +304,8 @@ module _ (width depth channels : ℕ) (form : IsForm width depth) (one : 1 ≤ c
       whole = ap (λ n. n % size) whole_length ∙ mul-mod_left (length rows) size;
     }
 
+    pub all_packable : IsTrue (list_all (is_packable (8 * width) channels) rows)
+    all_packable = subst (λ rs. IsTrue (list_all (is_packable (8 * width) channels) rs)) unpacked_back (packable (packed (8 * width) channels rows) packed_frames)
+
     pub all_clear : IsTrue (list_all (are_clear depth) rows)
     all_clear = all_true (are_clear depth) rows (λ k d h. (are k d h).clear)

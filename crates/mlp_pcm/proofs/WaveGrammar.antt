@@ -14,26 +14,26 @@ use Rattle.mlp_pcm.proofs.ChunkViews.{is_data, is_short, is_wrong, is_format, is
 use Rattle.mlp_pcm.proofs.ChunkLemmas.{head_then, chunk_other, fmt_right, data_begins, riff_right}
 
 -- the first bytes of a content
-first_of : (p : ℕ) (xs : List ℕ) → take 40 (take p xs) ≡ take (min p 40) xs
+pub first_of : (p : ℕ) (xs : List ℕ) → take 40 (take p xs) ≡ take (min p 40) xs
 first_of p xs = elim (cases_lt p 40) as (λ _. take 40 (take p xs) ≡ take (min p 40) xs) [
   | inl l ↦ take_all 40 (take p xs) (omega (arith, length-take p xs)) ∙ ap (λ n. take n xs) (let e : p ≡ min p 40 = omega arith in e)
   | inr l ↦ take-take 40 p xs (omega arith) ∙ ap (λ n. take n xs) (let e : 40 ≡ min p 40 = omega arith in e)
 ]
 
-right_false : (a : Bool) → (a && true) ≡ false → a ≡ false
+pub right_false : (a : Bool) → (a && true) ≡ false → a ≡ false
 right_false true h = h
 right_false false h = refl
 
 -- a chunk in front
-in_front : (bytes : List ℕ) (p : ℕ) (more : List ℕ) → drop p (drop 8 bytes) ≡ more → bytes ≡ (take 8 bytes ++ take p (drop 8 bytes)) ++ more
+pub in_front : (bytes : List ℕ) (p : ℕ) (more : List ℕ) → drop p (drop 8 bytes) ≡ more → bytes ≡ (take 8 bytes ++ take p (drop 8 bytes)) ++ more
 in_front bytes p more e =
     sym (take-append-drop 8 bytes) ∙ ap (λ ys. take 8 bytes ++ ys) (sym (take-append-drop p (drop 8 bytes)))
     ∙ sym (append_assoc (take 8 bytes) (take p (drop 8 bytes)) (drop p (drop 8 bytes))) ∙ ap (λ ys. (take 8 bytes ++ take p (drop 8 bytes)) ++ ys) e
 
-abbrev front_chunk : List ℕ → Chunk
+abbrev pub front_chunk : List ℕ → Chunk
 front_chunk bytes = record { head = take 8 bytes; content = take (padded (number_at 4 4 (take 8 bytes))) (drop 8 bytes) }
 
-front_is : (bytes : List ℕ) → 8 ≤ length bytes → starts_with nat_eq (take 8 bytes) (codes "data") ≡ false → padded (number_at 4 4 (take 8 bytes)) ≤ length (drop 8 bytes) → IsChunk (front_chunk bytes)
+pub front_is : (bytes : List ℕ) → 8 ≤ length bytes → starts_with nat_eq (take 8 bytes) (codes "data") ≡ false → padded (number_at 4 4 (take 8 bytes)) ≤ length (drop 8 bytes) → IsChunk (front_chunk bytes)
 front_is bytes l o k = record { head = length-take-le 8 bytes l; content = length-take-le (padded (number_at 4 4 (take 8 bytes))) (drop 8 bytes) k; other = o }
 
 -- what is behind the format
@@ -123,18 +123,18 @@ and_false : (a : Bool) → (a && false) ≡ false
 and_false true = refl
 and_false false = refl
 
-and_true : (a : Bool) → a ≡ false → (a && true) ≡ false
+pub and_true : (a : Bool) → a ≡ false → (a && true) ≡ false
 and_true true h = h
 and_true false h = refl
 
-right_true : (a b : Bool) → (a && b) ≡ true → b ≡ true
+pub right_true : (a b : Bool) → (a && b) ≡ true → b ≡ true
 right_true true b h = h
 right_true false b h = cc
 
 abbrev IsSkipped : Option Format → Chunk → Type 0
 IsSkipped seen c = (is_named (codes "fmt ") c.head && is_none seen) ≡ false
 
-passed_over : (seen : Option Format) (cs : List Chunk) (k : ℕ) (rest : List ℕ) → All IsChunk cs → All (IsSkipped seen) cs → chunks (length cs + k) seen (flat_map bytes_of cs ++ rest) ≡ chunks k seen rest
+pub passed_over : (seen : Option Format) (cs : List Chunk) (k : ℕ) (rest : List ℕ) → All IsChunk cs → All (IsSkipped seen) cs → chunks (length cs + k) seen (flat_map bytes_of cs ++ rest) ≡ chunks k seen rest
 passed_over seen [] k rest are skip = ap (λ m. chunks m seen rest) (let e : 0 + k ≡ k = omega arith in e)
 passed_over seen (c ∷ cs) k rest are skip =
     let n : ℕ = length cs + k in

@@ -81,7 +81,7 @@ abbrev pub UnpackedAreRows : Type 0
 UnpackedAreRows = (width depth channels : ℕ) (bytes : List ℕ) → IsForm width depth → 1 ≤ channels → channels ≤ 8 → AreFrames width channels bytes
     → IsTrue (list_all (are_clear depth) (rows_in width channels bytes)) → All (IsRow depth channels) (rows_in width channels bytes)
 
--- unpacked are the rows that were packed, whose bytes are whole frames, and `unpack` accepts them
+-- unpacked are the rows that were packed, whose bytes are whole frames, and both accept them
 abbrev pub UnpackedIsPacked : Type 0
 UnpackedIsPacked = (width depth channels : ℕ) (rows : List (List ℤ)) → IsForm width depth → 1 ≤ channels → channels ≤ 8 → All (IsRow depth channels) rows
-    → (rows_in width channels (packed (8 * width) channels rows) ≡ rows) × AreFrames width channels (packed (8 * width) channels rows) × IsTrue (list_all (are_clear depth) rows)
+    → (rows_in width channels (packed (8 * width) channels rows) ≡ rows) × AreFrames width channels (packed (8 * width) channels rows) × IsTrue (list_all (is_packable (8 * width) channels) rows) × IsTrue (list_all (are_clear depth) rows)

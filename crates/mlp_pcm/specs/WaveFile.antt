@@ -1,7 +1,8 @@
 -- What a WAVE file is, up to its data.
-use Rattle.std.specs.Prelude.{◌≡◌, ◌↔◌, ◌≤◌, ◌<◌, ◌*◌, ◌/◌, ◌^◌, ◌⊎◌, ℕ, Bool, false, nat_eq, List, ◌++◌, length, take, codes, All, Ok, IsTrue}
+use Rattle.std.specs.Prelude.{◌≡◌, ◌↔◌, ◌≤◌, ◌<◌, ◌*◌, ◌/◌, ◌^◌, ◌⊎◌, ℕ, Bool, false, nat_eq, List, ◌++◌, length, take, codes, All, Ok, Err, IsTrue}
 use Rattle.std.specs.List.{starts_with, flat_map}
 use Rattle.mlp_syntax.specs.declared.refusal.WaveField.{WaveField}
+use Rattle.mlp_syntax.specs.declared.refusal.WaveField.TheVariants.{Riff, FmtMissing}
 use Rattle.mlp_pcm.specs.declared.wave_format.Format.{Format}
 use Rattle.mlp_pcm.specs.WaveHeader.{padded, align_of, wave_header}
 use Rattle.mlp_pcm.specs.WaveFormat.{number_at, judged}
@@ -73,6 +74,50 @@ pub record IsWave (bytes : List ℕ) (format : Format) (size : ℕ) (rest : List
 -- bytes say that a header begins exactly where they are one
 abbrev pub BeginsWhereWave : Type 0
 BeginsWhereWave = (bytes : List ℕ) (format : Format) (size : ℕ) (rest : List ℕ) → Says bytes (begins format size rest) ↔ IsWave bytes format size rest
+
+-- data before any format
+pub record LacksFormat (bytes : List ℕ) (field : WaveField) : Type 0 where
+  pub head : List ℕ
+  pub rest : List ℕ
+  pub are : bytes ≡ head ++ rest
+  pub eight : length head ≡ 8
+  pub name : IsTrue (is_named (codes "data") head)
+  pub is : field ≡ FmtMissing
+
+-- a format that is refused
+pub record RefusesFormat (bytes : List ℕ) (field : WaveField) : Type 0 where
+  pub fmt : Chunk
+  pub rest : List ℕ
+  pub are : bytes ≡ bytes_of fmt ++ rest
+  pub chunk : IsChunk fmt
+  pub name : IsTrue (is_named (codes "fmt ") fmt.head)
+  pub judged : judged (size_in fmt.head) (take 40 fmt.content) ≡ Err field
+
+-- .. behind RIFF and chunks that are passed over
+pub record IsWrongBehindRiff (bytes : List ℕ) (field : WaveField) : Type 0 where
+  pub chunks : List Chunk
+  pub behind : List ℕ
+  pub are : bytes ≡ flat_map bytes_of chunks ++ behind
+  pub passed : All IsExtra chunks
+  pub stops : LacksFormat behind field ⊎ RefusesFormat behind field
+
+pub record IsWrongInside (bytes : List ℕ) (field : WaveField) : Type 0 where
+  pub riff : List ℕ
+  pub behind : List ℕ
+  pub are : bytes ≡ riff ++ behind
+  pub twelve : length riff ≡ 12
+  pub name : IsTrue (is_riff riff)
+  pub chunks : IsWrongBehindRiff behind field
+
+-- other words in the first 12 bytes
+pub record IsWrongRiff (bytes : List ℕ) (field : WaveField) : Type 0 where
+  pub long : 12 ≤ length bytes
+  pub name : is_riff (take 12 bytes) ≡ false
+  pub is : field ≡ Riff
+
+-- bytes say that a field is wrong exactly where it is the first that is
+abbrev pub RefusedWhereWrong : Type 0
+RefusedWhereWrong = (bytes : List ℕ) (field : WaveField) → Says bytes (refused field) ↔ (IsWrongRiff bytes field ⊎ IsWrongInside bytes field)
 
 -- bytes have one answer
 abbrev pub HasOneAnswer : List ℕ → Type 0

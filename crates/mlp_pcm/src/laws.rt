@@ -1,6 +1,6 @@
 //! What holds of PCM as bytes, and of the headers of WAVE files.
 ghost use Rattle.std.specs.Prelude.{ℕ, List};
-ghost use Rattle.mlp_pcm.specs.WaveFile.{BeginsWhereWave, HasOneAnswer, StaysSo, WrittenIsRead};
+ghost use Rattle.mlp_pcm.specs.WaveFile.{BeginsWhereWave, RefusedWhereWrong, HasOneAnswer, StaysSo, WrittenIsRead};
 ghost use Rattle.mlp_pcm.specs.Samples.{PackedIsUnpacked, UnpackedAreRows, UnpackedIsPacked};
 
 /// At each width `unpack` and `pack` are inverse: bytes of whole frames are those of the rows that they were unpacked to, and
@@ -13,10 +13,12 @@ pub fn law_samples()
 {}
 
 /// Bytes say that a header begins exactly where they are RIFF, a size, WAVE, chunks of which the first that is named `fmt `
-/// says the format, and the head of the data. Each list of bytes has one answer, and bytes behind a header, or behind a
-/// wrong field, change nothing.
+/// says the format, and the head of the data; and that a field is wrong exactly where the first 12 bytes have other words, or
+/// the data or a format that is refused comes first. Each list of bytes has one answer, and bytes behind a header, or behind
+/// a wrong field, change nothing.
 pub fn law_header()
     ensures begins { BeginsWhereWave }
+    ensures refused { RefusedWhereWrong }
     ensures one { (bytes : List ℕ) → HasOneAnswer bytes }
     ensures stays { StaysSo }
 {}

@@ -210,6 +210,7 @@ fn pack_frames(
         }
         end = next;
     }
+    // There is room for all of them.
     let _ = out.try_extend_from_slice(&bytes[..end]);
     Ok(())
 }
