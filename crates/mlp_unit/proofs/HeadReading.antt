@@ -1,4 +1,4 @@
--- The head is known from four bytes.
+-- The head is known from the first bytes.
 use Rattle.std.proofs.Common.{◌≡◌, ℕ, ◌≤◌, Bool, List, ◌++◌, length, take, drop, min, Ok, sym, ap, ◌∙◌, arith, inl, inr}
 use Rattle.std.proofs.lemmas.Bool.{cases_lt}
 use Rattle.std.proofs.lemmas.List.{take-append-drop, take_all, length-take}
@@ -25,13 +25,13 @@ head_settled all le =
 pub bits_split : (n : ℕ) (bytes : List ℕ) → bits_of (take n bytes) ++ bits_of (drop n bytes) ≡ bits_of bytes
 bits_split n bytes = sym (bits_of-append (take n bytes) (drop n bytes)) ∙ ap bits_of (take-append-drop n bytes)
 
-pub first_four : (next : List ℕ) → head.read (bits_of (take (min (length next) 4) next)) 0 ≡ head.read (bits_of next) 0
-first_four next = elim (cases_lt (length next) 4) [
-  | inl lt ↦ ap (λ (bytes : List ℕ). head.read (bits_of bytes) 0) (take_all (min (length next) 4) next (omega arith))
+pub first_eight : (next : List ℕ) → head.read (bits_of (take (min (length next) 8) next)) 0 ≡ head.read (bits_of next) 0
+first_eight next = elim (cases_lt (length next) 8) [
+  | inl lt ↦ ap (λ (bytes : List ℕ). head.read (bits_of bytes) 0) (take_all (min (length next) 8) next (omega arith))
   | inr le ↦
-      let four : min (length next) 4 ≡ 4 = omega arith in
-      let s = head_settled (bits_of (take 4 next)) (omega (arith, length-bits_of (take 4 next), length-take 4 next)) in
-      rw four (sym (s.same (bits_of (drop 4 next))) ∙ ap (λ (all : List Bool). head.read all 0) (bits_split 4 next))
+      let eight : min (length next) 8 ≡ 8 = omega arith in
+      let s = head_settled (bits_of (take 8 next)) (omega (arith, length-bits_of (take 8 next), length-take 8 next)) in
+      rw eight (sym (s.same (bits_of (drop 8 next))) ∙ ap (λ (all : List Bool). head.read all 0) (bits_split 8 next))
 ]
 
 -- what was read of a head

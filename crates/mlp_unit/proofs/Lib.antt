@@ -9,3 +9,5 @@ pub mod WrittenLaws
 pub mod OutlineLaws
 pub mod RoundTrip
 pub mod Reread
+pub mod UnitFitting
+pub mod WordReading

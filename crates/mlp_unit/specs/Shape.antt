@@ -1,6 +1,8 @@
 -- The outer part of a unit beside its bytes, and the ranges of its segments.
-use Rattle.std.specs.Prelude.{ℕ, zero, suc, ◌+◌, ◌*◌, List, [], ◌∷◌, drop}
+use Rattle.std.specs.Prelude.{ℕ, zero, suc, ◌+◌, ◌*◌, List, [], ◌∷◌, Option, drop}
+use Rattle.mlp_syntax.specs.declared.major.MajorSync.{MajorSync}
 use Rattle.mlp_syntax.specs.declared.unit.DirEntry.{DirEntry}
+use Rattle.mlp_syntax.specs.declared.unit.UnitHead.{UnitHead}
 use Rattle.mlp_syntax.specs.declared.unit.Outer.{Outer}
 use Rattle.mlp_unit.specs.Directory.{directory_size}
 use Rattle.mlp_unit.specs.AccessUnit.{AccessUnit, major_size}
@@ -9,9 +11,13 @@ use Rattle.mlp_unit.specs.AccessUnit.{AccessUnit, major_size}
 abbrev pub body_place : AccessUnit → ℕ
 body_place u = 4 + major_size u.major + directory_size u.entries
 
+-- a unit of these bytes with these parts, whose segments begin at this byte
+abbrev pub unit_of : List ℕ → UnitHead → Option MajorSync → List DirEntry → ℕ → AccessUnit
+unit_of bytes head major entries body = record { head = head; major = major; entries = entries; body = drop body bytes }
+
 -- a unit of these bytes with this outer part
 abbrev pub unit_with : List ℕ → Outer → AccessUnit
-unit_with bytes o = record { head = o.head; major = o.major; entries = o.entries.items; body = drop o.body bytes }
+unit_with bytes o = unit_of bytes o.head o.major o.entries.items o.body
 
 -- the end of an entry, 0 where it isn't there
 abbrev pub end_at : List DirEntry → ℕ → ℕ

@@ -10,7 +10,7 @@ ghost use Rattle.mlp_unit.specs.Directory.{entry, directory, lone_directory};
 use crate::rules::first_extra_word;
 use arrayvec::ArrayVec;
 use mlp_bits::BitReader;
-use mlp_layout::{broken, flag, word};
+use mlp_layout::{broken, word};
 use mlp_syntax::{Broken, DirEntry, Field, Kind};
 
 #[tactic(auto, unfolding(mlp_layout::specs::Layout::seen, mlp_layout::specs::Layout::made, mlp_layout::specs::Combined::chosen, mlp_layout::specs::Combined::present))]
@@ -24,37 +24,29 @@ fn read_extra(there: bool, r: &mut BitReader) -> Result<Option<u16>, Broken>
     Ok(Some(extra))
 }
 
-#[tactic(auto, unfolding(mlp_layout::specs::Layout::part, mlp_layout::specs::Layout::made, crate::specs::Directory::entry))]
-fn read_entry_fields(r: &mut BitReader) -> Result<DirEntry, Broken>
-    ensures { Gives (λ x. x) r.old r.new result (entry.read r.old.all r.old.place) }
-{
-    let there = flag(r)?;
-    let restart_absent = flag(r)?;
-    let checked = flag(r)?;
-    let reserved = flag(r)?;
-    let end = word(12, r)?;
-    let extra = read_extra(there, r)?;
-    Ok(DirEntry {
-        extra,
-        restart_absent,
-        checked,
-        reserved,
-        end,
-    })
-}
-
-#[tactic(auto, unfolding(mlp_layout::specs::Layout::whole))]
+/// An entry, whose first word is read as one number, or DirectoryShort.
+#[inline(always)]
 fn read_entry(r: &mut BitReader) -> Result<DirEntry, Broken>
     ensures { Gives (λ x. x) r.old r.new result ((whole rule.DirectoryShort entry).read r.old.all r.old.place) }
 {
     let at = r.place();
-    let Ok(found) = read_entry_fields(r) else {
+    let Ok(first) = word(16, r) else {
         return Err(broken(Field::DirectoryShort, at));
     };
-    Ok(found)
+    let Ok(extra) = read_extra(first / 32768 == 1, r) else {
+        return Err(broken(Field::DirectoryShort, at));
+    };
+    Ok(DirEntry {
+        extra,
+        restart_absent: first / 16384 % 2 == 1,
+        checked: first / 8192 % 2 == 1,
+        reserved: first / 4096 % 2 == 1,
+        end: first % 4096,
+    })
 }
 
 /// So many entries, or DirectoryShort.
+#[inline(always)]
 #[tactic(auto, unfolding(crate::specs::Directory::directory))]
 pub fn read_entries(count: u8, r: &mut BitReader) -> Result<ArrayVec<DirEntry, 4>, Broken>
     requires { count ≤ 4 }

@@ -2,6 +2,7 @@
 #![tactic(auto)]
 
 mod directory;
+mod fitting;
 mod head;
 pub mod laws;
 mod outer;
@@ -10,6 +11,7 @@ mod segment;
 mod writing;
 
 pub use directory::read_directory;
+pub use fitting::is_writable;
 pub use head::frame;
 pub use outer::read_outer;
 pub use segment::segment_range;

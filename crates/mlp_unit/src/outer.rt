@@ -1,6 +1,6 @@
 //! Reading the outer part of an access unit.
 ghost use Rattle.std.specs.Option.{option_copied};
-ghost use Rattle.std.specs.Prelude.{◌≡◌, ◌≤◌, ◌+◌, ◌*◌, ◌%◌, ◌&&◌, IsTrue, nat_le, is_some, Some, None, MatchResult, IfOk, IfSome, length, Ok, Err, drop};
+ghost use Rattle.std.specs.Prelude.{◌≡◌, ◌≤◌, ◌+◌, ◌*◌, ◌/◌, ◌%◌, ◌&&◌, IsTrue, true, false, nat_le, is_some, Some, None, MatchResult, IfOk, IfSome, length, Ok, Err, drop};
 ghost use Rattle.mlp_bits.specs.Bits.{bits_of};
 ghost use Rattle.mlp_layout.specs.Reading.{Gives};
 ghost use Rattle.mlp_layout.specs.Layout.{next_is};
@@ -8,15 +8,16 @@ ghost use Rattle.mlp_layout.specs.Combined.{first_fault, present};
 ghost use Rattle.mlp_major.specs.MajorSync.{major_sync, sync, IsUsable};
 ghost use Rattle.mlp_unit.specs.AccessUnit.{in_force, stream_kind, substreams_of, major_size, behind_sync, parts, rules, access_unit};
 ghost use Rattle.mlp_unit.specs.Frame.{frame_of};
-ghost use Rattle.mlp_unit.specs.Shape.{unit_with, body_place};
+ghost use Rattle.mlp_unit.specs.Shape.{unit_of, unit_with, body_place};
 
 use crate::directory::read_entries;
 use crate::head::read_head;
 use crate::rules::{first_bad_end, first_extra_word, first_restart_flag};
+use arrayvec::ArrayVec;
 use mlp_bits::{BitReader, nibble_parity};
 use mlp_layout::broken;
 use mlp_major::read_sync;
-use mlp_syntax::{Broken, Field, FormatInfo, Kind, MajorSync, Outer, UnitHead};
+use mlp_syntax::{Broken, DirEntry, Field, FormatInfo, Kind, MajorSync, Outer, UnitHead};
 
 /// The stream's first major sync, which may be this unit's.
 fn in_force<'a>(first: Option<&'a MajorSync>, major: &'a Option<MajorSync>) -> Option<&'a MajorSync>
@@ -77,48 +78,29 @@ fn read_present(
     Ok(Some(major))
 }
 
-/// What follows the major sync, or the head where there is none.
+/// The entries behind the major sync, or behind the head where there is none.
+#[inline(always)]
 fn read_behind_sync(
     unit: &[u8],
     first: Option<&MajorSync>,
     head: UnitHead,
-    major: Option<MajorSync>,
+    major: &Option<MajorSync>,
     r: &mut BitReader,
-) -> Result<Outer, Broken>
+) -> Result<ArrayVec<DirEntry, 4>, Broken>
     requires same { r.old.all ≡ bits_of unit.now }
     requires size { length unit.now ≡ 2 * head.words }
-    requires place { r.old.place ≡ 32 + 8 * major_size major }
-    requires few { substreams_of (in_force (option_copied first) major) ≤ 4 }
-    ensures read { MatchResult result (λ o. (behind_sync (option_copied first.entry) head major).read r.old.all r.old.place ≡ Ok (unit_with unit.now o, 8 * length unit.now))
-        (λ e. (behind_sync (option_copied first.entry) head major).read r.old.all r.old.place ≡ Err e) }
-    ensures body { IfOk result (λ o. (o.major ≡ major) × (o.body ≡ body_place (unit_with unit.now o))) }
+    requires place { r.old.place ≡ 32 + 8 * major_size major.now }
+    requires few { substreams_of (in_force (option_copied first) major.now) ≤ 4 }
+    ensures read { MatchResult result (λ es. (behind_sync (option_copied first.entry) head major.now).read r.old.all r.old.place ≡ Ok (unit_of unit.now head major.now es.items (r.new.place / 8), 8 * length unit.now))
+        (λ e. (behind_sync (option_copied first.entry) head major.now).read r.old.all r.old.place ≡ Err e) }
+    ensures body { IfOk result (λ es. r.new.place / 8 ≡ body_place (unit_of unit.now head major.now es.items (r.new.place / 8))) }
 {
-    let Some(sync) = in_force(first, &major) else {
+    let Some(sync) = in_force(first, major) else {
         return Err(broken(Field::FirstSync, r.place()));
     };
     let entries = read_entries(sync.substreams, r)?;
-    let body = r.place() / 8;
-    Ok(Outer {
-        head,
-        major,
-        entries,
-        body,
-    })
-}
-
-/// All but the rules on the directory.
-fn read_parts(unit: &[u8], first: Option<&MajorSync>) -> Result<Outer, Broken>
-    requires framed { frame_of unit.now ≡ Ok (length unit.now) }
-    requires few { substreams_of (option_copied first) ≤ 4 }
-    ensures read { MatchResult result (λ o. (parts (option_copied first.entry)).read (bits_of unit.now) 0 ≡ Ok (unit_with unit.now o, 8 * length unit.now))
-        (λ e. (parts (option_copied first.entry)).read (bits_of unit.now) 0 ≡ Err e) }
-    ensures body { IfOk result (λ o. o.body ≡ body_place (unit_with unit.now o)) }
-    ensures usable { IfOk result (λ o. IfSome o.major IsUsable) }
-{
-    let mut r = BitReader::new(unit);
-    let head = read_head(&mut r)?;
-    let major = read_present(has_sync(unit), unit, first, &mut r)?;
-    read_behind_sync(unit, first, head, major, &mut r)
+    let _body = r.place();
+    Ok(entries)
 }
 
 /// The byte of the unit at which the directory begins.
@@ -132,30 +114,87 @@ fn directory_start(major: &Option<MajorSync>) -> u32
 }
 
 /// The rules on the directory, in their order. Bits are counted from the unit's first.
-fn check_directory(unit: &[u8], first: Option<&MajorSync>, outer: &Outer) -> Result<(), Broken>
+#[inline(always)]
+fn check_directory(
+    unit: &[u8],
+    first: Option<&MajorSync>,
+    head: UnitHead,
+    major: &Option<MajorSync>,
+    entries: &[DirEntry],
+    body: usize,
+) -> Result<(), Broken>
     requires framed { frame_of unit.now ≡ Ok (length unit.now) }
-    requires read { (parts (option_copied first)).read (bits_of unit.now) 0 ≡ Ok (unit_with unit.now outer.now, 8 * length unit.now) }
-    requires body { outer.now.body ≡ body_place (unit_with unit.now outer.now) }
-    ensures { MatchResult result (λ x. first_fault (rules (option_copied first.entry)) (unit_with unit.now outer.now) ≡ None)
-        (λ e. first_fault (rules (option_copied first.entry)) (unit_with unit.now outer.now) ≡ Some (e.field, e.bit)) }
+    requires read { (parts (option_copied first)).read (bits_of unit.now) 0 ≡ Ok (unit_of unit.now head major.now entries.now body, 8 * length unit.now) }
+    requires body { body ≡ body_place (unit_of unit.now head major.now entries.now body) }
+    requires few { length entries.now ≤ 4 }
+    ensures { MatchResult result (λ x. first_fault (rules (option_copied first.entry)) (unit_of unit.now head major.now entries.now body) ≡ None)
+        (λ e. first_fault (rules (option_copied first.entry)) (unit_of unit.now head major.now entries.now body) ≡ Some (e.field, e.bit)) }
 {
-    let start = directory_start(&outer.major);
-    let kind = stream_kind(in_force(first, &outer.major));
-    if let Some(place) = first_extra_word(kind, 8 * start, &outer.entries) {
+    let start = directory_start(major);
+    let kind = stream_kind(in_force(first, major));
+    if let Some(place) = first_extra_word(kind, 8 * start, entries) {
         return Err(broken(Field::ExtraWord, place));
     }
-    let body = outer.body as usize;
     if nibble_parity(&unit[..4], &unit[start as usize..body]) != 0xF {
         return Err(broken(Field::UnitParity, 0));
     }
-    if let Some(place) = first_restart_flag(outer.major.is_some(), 8 * start, &outer.entries) {
+    if let Some(place) = first_restart_flag(major.is_some(), 8 * start, entries) {
         return Err(broken(Field::RestartFlag, place + 1));
     }
-    let last = (unit.len() - body) as u32 / 2;
-    if let Some(place) = first_bad_end(last, 8 * start, &outer.entries) {
+    let last = (unit.len() - body) / 2;
+    if let Some(place) = first_bad_end(last, 8 * start, entries) {
         return Err(broken(Field::DirectoryEnd, place + 4));
     }
     Ok(())
+}
+
+/// The outer part of a unit with a major sync.
+fn read_with_sync(unit: &[u8], first: Option<&MajorSync>) -> Result<Outer, Broken>
+    requires there { true ≡ (nat_le 8 (length unit.now) && next_is 31 sync (drop 32 (bits_of unit.now))) }
+    requires framed { frame_of unit.now ≡ Ok (length unit.now) }
+    requires few { substreams_of (option_copied first) ≤ 4 }
+    ensures read { MatchResult result (λ o. (access_unit (option_copied first.entry)).read (bits_of unit.now) 0 ≡ Ok (unit_with unit.now o, 8 * length unit.now))
+        (λ e. (access_unit (option_copied first.entry)).read (bits_of unit.now) 0 ≡ Err e) }
+    ensures body { IfOk result (λ o. o.body ≡ body_place (unit_with unit.now o)) }
+    ensures usable { IfOk result (λ o. IfSome o.major IsUsable) }
+{
+    let mut r = BitReader::new(unit);
+    let head = read_head(&mut r)?;
+    let major = read_present(true, unit, first, &mut r)?;
+    let entries = read_behind_sync(unit, first, head, &major, &mut r)?;
+    let body = r.place() / 8;
+    check_directory(unit, first, head, &major, &entries, body as usize)?;
+    Ok(Outer {
+        head,
+        major,
+        entries,
+        body,
+    })
+}
+
+/// The outer part of a unit without a major sync.
+#[inline(always)]
+fn read_without_sync(unit: &[u8], first: Option<&MajorSync>) -> Result<Outer, Broken>
+    requires none { false ≡ (nat_le 8 (length unit.now) && next_is 31 sync (drop 32 (bits_of unit.now))) }
+    requires framed { frame_of unit.now ≡ Ok (length unit.now) }
+    requires few { substreams_of (option_copied first) ≤ 4 }
+    ensures read { MatchResult result (λ o. (access_unit (option_copied first.entry)).read (bits_of unit.now) 0 ≡ Ok (unit_with unit.now o, 8 * length unit.now))
+        (λ e. (access_unit (option_copied first.entry)).read (bits_of unit.now) 0 ≡ Err e) }
+    ensures body { IfOk result (λ o. o.body ≡ body_place (unit_with unit.now o)) }
+    ensures usable { IfOk result (λ o. IfSome o.major IsUsable) }
+{
+    let mut r = BitReader::new(unit);
+    let head = read_head(&mut r)?;
+    let major: Option<MajorSync> = None;
+    let entries = read_behind_sync(unit, first, head, &major, &mut r)?;
+    let body = r.place() / 8;
+    check_directory(unit, first, head, &major, &entries, body as usize)?;
+    Ok(Outer {
+        head,
+        major,
+        entries,
+        body,
+    })
 }
 
 /// The outer part of an access unit, or the first rule that fails: of the major sync, where one is there, and then of the
@@ -170,7 +209,8 @@ pub fn read_outer(unit: &[u8], first: Option<&MajorSync>) -> Result<Outer, Broke
     ensures body { IfOk result (λ o. o.body ≡ body_place (unit_with unit.now o)) }
     ensures usable { IfOk result (λ o. IfSome o.major IsUsable) }
 {
-    let outer = read_parts(unit, first)?;
-    check_directory(unit, first, &outer)?;
-    Ok(outer)
+    if has_sync(unit) {
+        return read_with_sync(unit, first);
+    }
+    read_without_sync(unit, first)
 }

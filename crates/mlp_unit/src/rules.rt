@@ -47,7 +47,7 @@ pub fn first_restart_flag(major: bool, place: u32, entries: &[DirEntry]) -> Opti
 }
 
 /// The place of the first entry whose end is below the one before it, or past the last word.
-pub fn first_bad_end(last: u32, place: u32, entries: &[DirEntry]) -> Option<u32>
+pub fn first_bad_end(last: usize, place: u32, entries: &[DirEntry]) -> Option<u32>
     requires place { place ≤ 65520 }
     requires few { length entries.now ≤ 4 }
     ensures first { result ≡ first_bad_end 0 last place entries.now }
@@ -56,7 +56,7 @@ pub fn first_bad_end(last: u32, place: u32, entries: &[DirEntry]) -> Option<u32>
     let mut at = place;
     let mut before = 0;
     for entry in entries {
-        let end = u32::from(entry.end);
+        let end = usize::from(entry.end);
         if end < before || end > last {
             return Some(at);
         }

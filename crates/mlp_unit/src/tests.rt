@@ -1,7 +1,7 @@
-//! The rules on an access unit's outer part, each with units of which it is the first that fails; and a directory with its
-//! segment.
-use crate::{frame, read_directory, read_outer, segment_range};
-use mlp_syntax::{Broken, DirEntry, Field, Kind, MajorSync, Outer};
+//! The rules on an access unit's outer part, each with units of which it is the first that fails; units that are written as
+//! they were read; and a directory with its segment.
+use crate::{frame, is_writable, read_directory, read_outer, segment_range, write_unit};
+use mlp_syntax::{Broken, DirEntry, Field, Kind, MajorSync, Outer, UnitBytes, UnitTooLong};
 use std::process::Abort;
 
 /// A silent first unit.
@@ -550,6 +550,110 @@ fn rules_on_directory(rt: HostRuntime) {
             "{field:?} at {bit}"
         );
     }
+}
+
+/// A silent first unit with a long major sync.
+const FIRST_LONG: [u8; 60] = [
+    0xE0, 0x1E, 0, 0, 0xF8, 0x72, 0x6F, 0xBA, 0, 0, 0x80, 1, 0xB7, 0x52, 0, 0, 0, 0, 0x97, 0x6F,
+    0x10, 0, 0, 0, 0, 0, 0, 0, 0, 1, 0, 0, 0x50, 0x26, 0x20, 0x0C, 0xF1, 0xEA, 0x0E, 0x10, 1, 0x10,
+    0, 0, 0, 0, 0, 0, 0, 0, 0, 3, 0x98, 0x8A, 4, 0, 0x80, 0x10, 0x38, 0xC5,
+];
+
+/// The bytes that are written for what is read of a unit.
+fn rewritten(
+    rt: &impl Abort,
+    unit: &[u8],
+    first: Option<&MajorSync>,
+    out: &mut UnitBytes,
+) -> Result<(), Broken> {
+    let outer = outer(rt, unit, first)?;
+    let major = outer.major.as_ref();
+    let entries = outer.entries.as_slice();
+    let start = outer.body as usize;
+    assert!(rt; start <= unit.len());
+    let body = &unit[start..];
+    assert!(rt; is_writable(major, entries, body));
+    assert_eq!(rt;
+        write_unit(outer.head.timing, major, entries, body, out),
+        Ok(())
+    );
+    Ok(())
+}
+
+#[test]
+fn units_are_written_as_they_were_read(rt: HostRuntime) {
+    let first = outer(&rt, &FIRST_TRUEHD, None)
+        .ok()
+        .expect(&rt, "a first unit");
+    let behind: [&[u8]; 2] = [
+        &[0x40, 5, 0, 0x28, 0x60, 2, 0x40, 0, 0xE9, 0x1D],
+        &[
+            0x80, 8, 0, 0x28, 0xF0, 4, 0x6F, 0xBC, 0x91, 0x40, 0x80, 0x10, 2, 0, 0xEA, 0xDA,
+        ],
+    ];
+    let mut out = UnitBytes::new();
+    for unit in behind {
+        assert_eq!(rt;
+            rewritten(&rt, unit, first.major.as_ref(), &mut out),
+            Ok(())
+        );
+        assert_eq!(rt; out.as_slice(), unit);
+    }
+    let firsts: [&[u8]; 3] = [&FIRST_TRUEHD, &FIRST_MLP, &FIRST_LONG];
+    for unit in firsts {
+        assert_eq!(rt; rewritten(&rt, unit, None, &mut out), Ok(()));
+        assert_eq!(rt; out.as_slice(), unit);
+    }
+}
+
+/// An entry of a unit without a major sync.
+fn entry(extra: Option<u16>, end: u16) -> DirEntry {
+    DirEntry {
+        extra,
+        restart_absent: true,
+        checked: true,
+        reserved: extra.is_some(),
+        end,
+    }
+}
+
+/// Writes a unit of silence with one entry behind a first unit.
+fn write_silent(
+    rt: &impl Abort,
+    end: u16,
+    bytes: usize,
+    out: &mut UnitBytes,
+) -> Result<(), UnitTooLong> {
+    let zeros = [0; 8186];
+    assert!(rt; bytes <= zeros.len());
+    let entries = [entry(None, end)];
+    let body = &zeros[..bytes];
+    assert!(rt; is_writable(None, &entries, body));
+    write_unit(40, None, &entries, body, out)
+}
+
+#[test]
+fn the_longest_unit_is_written(rt: HostRuntime) {
+    let mut out = UnitBytes::new();
+    assert_eq!(rt; write_silent(&rt, 6, 12, &mut out), Ok(()));
+    let silent = [
+        0xC0, 9, 0, 0x28, 0x60, 6, 0, 0, 0, 0, 0, 0, 0, 0, 0, 0, 0, 0,
+    ];
+    assert_eq!(rt; out.as_slice(), silent.as_slice());
+    assert_eq!(rt; write_silent(&rt, 4092, 8186, &mut out), Err(UnitTooLong));
+    assert_eq!(rt; out.as_slice(), silent.as_slice());
+    assert_eq!(rt; write_silent(&rt, 4092, 8184, &mut out), Ok(()));
+    assert_eq!(rt; out.len(), 8190);
+    assert_eq!(rt;
+        &out[..8],
+        [0x0F, 0xFF, 0, 0x28, 0x6F, 0xFC, 0, 0].as_slice()
+    );
+}
+
+#[test]
+fn what_looks_like_a_major_sync_is_not_writable(rt: HostRuntime) {
+    let body = [0; 2];
+    assert!(rt; !is_writable(None, &[entry(Some(0x6FBA), 0x872)], &body));
 }
 
 #[test]

@@ -14,7 +14,7 @@ use mlp_major::write_major;
 use mlp_syntax::{DirEntry, MajorSync, UnitBytes, UnitTooLong};
 
 /// The first word of an entry.
-fn entry_word(entry: &DirEntry) -> u16
+pub fn entry_word(entry: &DirEntry) -> u16
     requires { entry.now.end < 4096 }
     ensures { entry_layout.spelling entry.now ≡ bits 16 result ++ (present (is_some entry.now.extra) (number_of 16)).spelling entry.now.extra }
 {

@@ -6,7 +6,7 @@ use Rattle.mlp_bits.specs.Bits.{bits_of}
 use Rattle.mlp_bits.specs.Cursor.{Cursor}
 use Rattle.mlp_layout.specs.Reading.{Read, Gives}
 use Rattle.mlp_unit.specs.AccessUnit.{head}
-use Rattle.mlp_unit.proofs.HeadReading.{first_four, head_found}
+use Rattle.mlp_unit.proofs.HeadReading.{first_eight, head_found}
 use Rattle.mlp_unit.proofs.head.first_head.Goals as goal
 
 abbrev Reads : Result UnitHead Broken → Read UnitHead → Type 0
@@ -22,4 +22,4 @@ pub returns : goal.returns
 returns c =
     let next = c.args.next.now in
     let start = λ (n : ℕ). let r : Cursor = record { all = bits_of (take n next); place = 0 } in r in
-    subst (Reads c.read_head.result) (first_four next) (as_read (bits_of (take (min (length next) 4) next)) c.new-r.result c.read_head.new.r c.read_head.result (c.new-r.ensures ∙ ap start c.min.ensures) c.read_head.ensures)
+    subst (Reads c.read_head.result) (first_eight next) (as_read (bits_of (take (min (length next) 8) next)) c.new-r.result c.read_head.new.r c.read_head.result (c.new-r.ensures ∙ ap start c.min.ensures) c.read_head.ensures)

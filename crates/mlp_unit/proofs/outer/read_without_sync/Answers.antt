@@ -1,0 +1,93 @@
+use Rattle.std.proofs.Common.{false, ◌≡◌, ◌+◌, ◌*◌, ◌/◌, ℕ, List, length, Option, None, Ok, Err, ap, ◌∙◌, refl, sym, subst, arith}
+use Rattle.std.specs.Option.{option_copied}
+use Rattle.std.proofs.lemmas.Result.{err_from_is_err_and}
+use Rattle.mlp_bits.specs.Bits.{bits_of}
+use Rattle.mlp_bits.specs.Cursor.{Cursor}
+use Rattle.mlp_syntax.specs.declared.fault.Broken.{Broken}
+use Rattle.mlp_syntax.specs.declared.major.MajorSync.{MajorSync}
+use Rattle.mlp_syntax.specs.declared.unit.DirEntry.{DirEntry}
+use Rattle.mlp_layout.specs.Reading.{Read, broken}
+use Rattle.mlp_layout.specs.Combined.{first_fault, present, chosen}
+use Rattle.mlp_layout.specs.Layout.{made}
+use Rattle.mlp_major.specs.MajorSync.{major_sync}
+use Rattle.mlp_layout.proofs.RuleReading.{under_err, under_ok, under_fails}
+use Rattle.mlp_unit.specs.AccessUnit.{AccessUnit, access_unit, head, parts, rules}
+use Rattle.mlp_unit.specs.Shape.{unit_of}
+use Rattle.mlp_unit.proofs.UnitReading.{framed_small, parts_err, sync_place, sync_ok}
+use Rattle.mlp_unit.proofs.outer.read_without_sync.Goals as goal
+
+none_there : (first : Option MajorSync) (r : Cursor) → (present false (major_sync first)).read r.all r.place ≡ Ok (let none : Option MajorSync = None in none, r.place)
+unfolding present chosen made
+none_there first r = refl
+
+pub new-r-requires : goal.new-r-requires
+new-r-requires c = framed_small c.args.unit.now _ c.requires.framed
+
+pub returns-in_err-head-clause-read : goal.returns-in_err-head-clause-read
+unfolding access_unit
+returns-in_err-head-clause-read c =
+    let first = option_copied c.args.first in
+    let all = bits_of c.args.unit.now in
+    let p = err_from_is_err_and c.from_residual.result c.from_residual.ensures.1 in
+    let e = c.in_err-head.field-0.0 in
+    let start = subst (λ (r : Cursor). head.read r.all r.place ≡ Err e) c.new-r.ensures c.in_err-head.ensures in
+    rw (p.1, p.2) (under_err all 0 (rules first) (parts first) e (parts_err first all e start))
+
+pub read_behind_sync-requires-clause-place : goal.read_behind_sync-requires-clause-place
+read_behind_sync-requires-clause-place c =
+    let start = subst (λ (r : Cursor). head.read r.all r.place ≡ Ok (c.in_ok-head.head, c.read_head.new.r.place)) c.new-r.ensures c.in_ok-head.ensures.0 in
+    let first = option_copied c.args.first in
+    sync_place first c.args.unit.now c.in_ok-head.head c.requires.framed c.read_head.new.r (c.in_ok-head.ensures.1 ∙ ap (λ (r : Cursor). r.all) c.new-r.ensures) start false c.requires.none None c.read_head.new.r refl (none_there first c.read_head.new.r)
+
+pub returns-in_err-entries-clause-read : goal.returns-in_err-entries-clause-read
+unfolding access_unit
+returns-in_err-entries-clause-read c =
+    let first = option_copied c.args.first in
+    let p = err_from_is_err_and c.from_residual-in_err-entries.result c.from_residual-in_err-entries.ensures.1 in
+    let start = subst (λ (r : Cursor). head.read r.all r.place ≡ Ok (c.in_ok-head.head, c.read_head.new.r.place)) c.new-r.ensures c.in_ok-head.ensures.0 in
+    let same = sync_ok first c.args.unit.now c.in_ok-head.head c.requires.framed c.read_head.new.r (c.in_ok-head.ensures.1 ∙ ap (λ (r : Cursor). r.all) c.new-r.ensures) start false c.requires.none None c.read_head.new.r refl (none_there first c.read_head.new.r) in
+    let e = c.in_err-entries.field-0.0 in
+    rw (p.1, p.2) (under_err (bits_of c.args.unit.now) 0 (rules first) (parts first) e (sym same ∙ c.in_err-entries.ensures.read))
+
+pub check_directory-requires-clause-read : goal.check_directory-requires-clause-read
+check_directory-requires-clause-read c =
+    let first = option_copied c.args.first in
+    let start = subst (λ (r : Cursor). head.read r.all r.place ≡ Ok (c.in_ok-head.head, c.read_head.new.r.place)) c.new-r.ensures c.in_ok-head.ensures.0 in
+    let same = sync_ok first c.args.unit.now c.in_ok-head.head c.requires.framed c.read_head.new.r (c.in_ok-head.ensures.1 ∙ ap (λ (r : Cursor). r.all) c.new-r.ensures) start false c.requires.none None c.read_head.new.r refl (none_there first c.read_head.new.r) in
+    rw (c.deref.ensures.0, c.place-body.ensures.value) (sym same ∙ c.in_ok-entries.ensures.read)
+
+pub check_directory-requires-clause-body : goal.check_directory-requires-clause-body
+check_directory-requires-clause-body c = rw (c.deref.ensures.0, c.place-body.ensures.value) c.in_ok-entries.ensures.body
+
+abbrev PartsAre : Option MajorSync → List ℕ → AccessUnit → Type 0
+PartsAre first bytes u = (parts first).read (bits_of bytes) 0 ≡ Ok (u, 8 * length bytes)
+
+abbrev failed_at : Broken → ℕ → Read AccessUnit
+failed_at b at = Err (broken b.field at)
+
+pub returns-in_err-check_directory-clause-read : goal.returns-in_err-check_directory-clause-read
+unfolding access_unit
+returns-in_err-check_directory-clause-read c =
+    let first = option_copied c.args.first in
+    let bytes = c.args.unit.now in
+    let p = err_from_is_err_and c.from_residual-in_err-check_directory.result c.from_residual-in_err-check_directory.ensures.1 in
+    let start = subst (λ (r : Cursor). head.read r.all r.place ≡ Ok (c.in_ok-head.head, c.read_head.new.r.place)) c.new-r.ensures c.in_ok-head.ensures.0 in
+    let same = sync_ok first bytes c.in_ok-head.head c.requires.framed c.read_head.new.r (c.in_ok-head.ensures.1 ∙ ap (λ (r : Cursor). r.all) c.new-r.ensures) start false c.requires.none None c.read_head.new.r refl (none_there first c.read_head.new.r) in
+    let u = unit_of bytes c.in_ok-head.head None c.deref.result.now (c.place-body.result / 8) in
+    let whole : PartsAre first bytes u = rw (c.deref.ensures.0, c.place-body.ensures.value) (sym same ∙ c.in_ok-entries.ensures.read) in
+    let e = c.in_err-check_directory.field-0.0 in
+    let z : 0 + e.bit ≡ e.bit = omega arith in
+    rw (p.1, p.2) (under_fails (bits_of bytes) 0 (rules first) (parts first) u (8 * length bytes) e.field e.bit whole c.in_err-check_directory.ensures ∙ ap (failed_at e) z)
+
+pub returns-clause-read : goal.returns-clause-read
+unfolding access_unit
+returns-clause-read c =
+    let first = option_copied c.args.first in
+    let bytes = c.args.unit.now in
+    let start = subst (λ (r : Cursor). head.read r.all r.place ≡ Ok (c.in_ok-head.head, c.read_head.new.r.place)) c.new-r.ensures c.in_ok-head.ensures.0 in
+    let same = sync_ok first bytes c.in_ok-head.head c.requires.framed c.read_head.new.r (c.in_ok-head.ensures.1 ∙ ap (λ (r : Cursor). r.all) c.new-r.ensures) start false c.requires.none None c.read_head.new.r refl (none_there first c.read_head.new.r) in
+    let unit = λ (es : List DirEntry). unit_of bytes c.in_ok-head.head None es (c.place-body.result / 8) in
+    let u = unit c.in_ok-entries.entries.items in
+    let whole : PartsAre first bytes u = rw c.place-body.ensures.value (sym same ∙ c.in_ok-entries.ensures.read) in
+    let met : first_fault (rules first) u ≡ None = subst (λ (es : List DirEntry). first_fault (rules first) (unit es) ≡ None) c.deref.ensures.0 c.in_ok-check_directory.ensures in
+    under_ok (bits_of bytes) 0 (rules first) (parts first) u (8 * length bytes) whole met
