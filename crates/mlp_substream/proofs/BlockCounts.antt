@@ -1,26 +1,21 @@
 -- How many blocks a unit has frames for.
-use Rattle.std.proofs.Common.{◌≡◌, ℕ, zero, suc, ◌+◌, ◌*◌, ◌<◌, ◌≤◌, Bool, true, false, List, [], ◌∷◌, length, Result, Ok, Err, Option, Some, None, refl, sym, ap, subst, ◌∙◌, arith}
-use Rattle.std.specs.Prelude.{is_some, IfSome, IsTrue, nat_le, option_map}
+use Rattle.std.proofs.Common.{◌≡◌, ℕ, zero, suc, ◌+◌, ◌*◌, ◌<◌, ◌≤◌, Bool, true, false, List, [], ◌∷◌, length, Ok, Err, Option, Some, None, refl, sym, ap, subst, arith}
+use Rattle.std.specs.Prelude.{IfSome, option_map}
 use Rattle.std.proofs.lemmas.Bool.{leb-true}
-use Rattle.mlp_syntax.specs.declared.fault.Field.TheVariants as rule
-use Rattle.mlp_syntax.specs.declared.fault.Broken.{Broken}
 use Rattle.mlp_syntax.specs.declared.restart.Restart.{Restart}
 use Rattle.mlp_syntax.specs.declared.params.Params.{Params}
 use Rattle.mlp_syntax.specs.declared.segment.BlockHead.{BlockHead}
 use Rattle.mlp_syntax.specs.declared.segment.FrameCode.{FrameCode}
 use Rattle.mlp_syntax.specs.declared.segment.Segment.{Segment}
 use Rattle.mlp_layout.specs.Reading.{Read, ◌>>=◌}
-use Rattle.mlp_layout.specs.Layout.{Layout, IsLayout, Found, never, item, part, made}
-use Rattle.mlp_layout.specs.Combined.{flag, chosen, is_empty, up_to_last}
+use Rattle.mlp_layout.specs.Layout.{Layout, never, item, part, made}
+use Rattle.mlp_layout.specs.Combined.{flag, chosen, up_to_last}
 use Rattle.mlp_layout.proofs.LayoutLaws.{is_found, is_within}
 use Rattle.mlp_layout.proofs.CombinedLaws.{flag_is}
 use Rattle.mlp_params.specs.declared.state.State.{State}
 use Rattle.mlp_params.specs.Allowed.{Allowed}
-use Rattle.mlp_params.specs.States.{IsState}
 use Rattle.mlp_params.specs.Parameters.{params}
-use Rattle.mlp_params.specs.Applied.{applied}
 use Rattle.mlp_params.specs.RestartHeader.{restart}
-use Rattle.mlp_params.specs.InForce.{in_force}
 use Rattle.mlp_params.proofs.LawfulStates.{restart_is_state}
 use Rattle.mlp_params.proofs.LawfulSteps.{applied_is}
 use Rattle.mlp_substream.specs.declared.known.Place.{Place}
@@ -29,7 +24,7 @@ use Rattle.mlp_substream.specs.Blocks.{against, restarted, given, after_head, bl
 use Rattle.mlp_substream.specs.Segment.{nested, segment}
 use Rattle.mlp_substream.proofs.BlockLaws.{block_is}
 use Rattle.mlp_substream.proofs.ReadingLaws.{at_of, least_size}
-use Rattle.mlp_substream.proofs.WritingParts.{restart_allowed, params_allowed, head_parts, BlockParts, block_parts}
+use Rattle.mlp_substream.proofs.WritingParts.{restart_allowed, params_allowed, head_parts, block_parts}
 use Rattle.mlp_substream.proofs.WritingBlocks.{blocks_from}
 use Rattle.mlp_substream.proofs.WritingEnds.{has_tail, meets_tail, tail_blocks}
 

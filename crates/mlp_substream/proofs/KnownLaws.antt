@@ -1,15 +1,13 @@
 -- What is known from elsewhere changes no spelling, and where nothing is known no more is asked.
-use Rattle.std.proofs.Common.{◌≡◌, ℕ, zero, suc, ◌+◌, ◌-◌, ◌<◌, ◌≤◌, cond, Bool, true, false, eqb, List, [], ◌∷◌, ◌++◌, length, Option, Some, None, refl, sym, ap, subst, ◌∙◌}
+use Rattle.std.proofs.Common.{◌≡◌, ℕ, zero, suc, ◌-◌, Bool, true, false, eqb, List, [], ◌∷◌, ◌++◌, length, Option, Some, None, refl, sym, ap, ◌∙◌}
 use Rattle.std.specs.Prelude.{is_some, ◌&&◌, ◌||◌}
 use Rattle.mlp_syntax.specs.declared.major.Kind.{Kind}
-use Rattle.mlp_syntax.specs.declared.fault.Field.TheVariants as rule
 use Rattle.mlp_syntax.specs.declared.restart.Restart.{Restart}
 use Rattle.mlp_syntax.specs.declared.segment.BlockHead.{BlockHead}
 use Rattle.mlp_syntax.specs.declared.segment.Segment.{Segment}
-use Rattle.mlp_bits.specs.Bits.{bits}
-use Rattle.mlp_layout.specs.Layout.{Layout, number_of, seen, ruled, part, made, tested, never, item, spelling_as}
-use Rattle.mlp_layout.specs.Combined.{under, flag, chosen, present, is_empty, up_to_last}
-use Rattle.mlp_layout.specs.Tails.{part_tail, placed, ending, whole_text, judged_at_end, checked_first, chosen_whole}
+use Rattle.mlp_layout.specs.Layout.{Layout, seen, ruled, part, made, tested, never, item}
+use Rattle.mlp_layout.specs.Combined.{under, flag, chosen, present, up_to_last}
+use Rattle.mlp_layout.specs.Tails.{part_tail, placed, whole_text, judged_at_end, checked_first, chosen_whole}
 use Rattle.mlp_params.specs.declared.state.State.{State}
 use Rattle.mlp_params.specs.Allowed.{Allowed}
 use Rattle.mlp_substream.specs.declared.known.Place.{Place}

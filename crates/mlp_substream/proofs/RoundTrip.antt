@@ -1,5 +1,5 @@
 -- What was read is written again, and what was written is read back.
-use Rattle.std.proofs.Common.{◌≡◌, Bool, true, false, List, Result, Ok, Option, refl, sym, ap, subst}
+use Rattle.std.proofs.Common.{◌≡◌, Bool, List, Result, Ok, Option, refl, sym, ap, subst}
 use Rattle.mlp_syntax.specs.declared.fault.Broken.{Broken}
 use Rattle.mlp_syntax.specs.declared.segment.Segment.{Segment}
 use Rattle.mlp_layout.specs.Tails.{FoundWhole, SoundWhole, part_tail, placed, ending}

@@ -1,8 +1,7 @@
 -- How a segment is spelled around its blocks: the end, and the checks.
-use Rattle.std.proofs.Common.{◌≡◌, ℕ, suc, ◌+◌, ◌*◌, ◌-◌, ◌%◌, ◌^◌, ◌<◌, ◌≤◌, cond, Bool, true, false, List, [], ◌∷◌, ◌++◌, length, Result, Ok, Err, Option, Some, None, refl, sym, ap, subst, ◌∙◌, append_assoc, arith}
+use Rattle.std.proofs.Common.{◌≡◌, ℕ, ◌+◌, ◌*◌, ◌%◌, ◌^◌, ◌<◌, ◌≤◌, cond, Bool, true, false, List, [], ◌∷◌, ◌++◌, length, Result, Ok, Err, Option, Some, None, refl, sym, ap, subst, ◌∙◌, arith}
 use Rattle.std.specs.Prelude.{OnOk}
 use Rattle.std.proofs.lemmas.List.{length-append, append-nil}
-use Rattle.mlp_syntax.specs.declared.major.Kind.{Kind}
 use Rattle.mlp_syntax.specs.declared.fault.Field.TheVariants as rule
 use Rattle.mlp_syntax.specs.declared.segment.Segment.{Segment}
 use Rattle.mlp_bits.specs.Bits.{bits, bits_of}
@@ -16,9 +15,9 @@ use Rattle.mlp_params.specs.Allowed.{Allowed}
 use Rattle.mlp_params.specs.declared.state.State.{State}
 use Rattle.mlp_substream.specs.declared.known.Place.{Place}
 use Rattle.mlp_substream.specs.declared.known.Known.{Known}
-use Rattle.mlp_substream.specs.Checks.{bytes_of, parity_of, check_of}
-use Rattle.mlp_substream.specs.Blocks.{At, Block, block, after_block}
-use Rattle.mlp_substream.specs.Segment.{nested, heads_of, codes_of, terminator, padding_width, most_blocks, segment_tail, segment_text, segment}
+use Rattle.mlp_substream.specs.Checks.{parity_of, check_of}
+use Rattle.mlp_substream.specs.Blocks.{At, block, after_block}
+use Rattle.mlp_substream.specs.Segment.{nested, terminator, padding_width, most_blocks, segment_tail, segment_text, segment}
 use Rattle.mlp_substream.proofs.CheckLaws.{AreBytes, bytes_of-bits}
 use Rattle.mlp_substream.proofs.SegmentLaws.{terminator_long}
 use Rattle.mlp_substream.proofs.ReadingLaws.{at_of}

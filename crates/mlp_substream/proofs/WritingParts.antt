@@ -1,13 +1,12 @@
 -- How heads and blocks are spelled and allowed, part by part.
-use Rattle.std.proofs.Common.{◌≡◌, ℕ, ◌+◌, ◌≤◌, Bool, true, false, List, [], ◌++◌, length, Option, Some, None, refl, sym, ap, subst}
+use Rattle.std.proofs.Common.{◌≡◌, ◌+◌, Bool, true, false, List, [], ◌++◌, Option, Some, None, refl, sym, ap}
 use Rattle.std.specs.Prelude.{is_some, IfSome, IsTrue, nat_le}
 use Rattle.std.proofs.lemmas.List.{append-nil}
 use Rattle.mlp_syntax.specs.declared.major.Kind.{Kind}
 use Rattle.mlp_syntax.specs.declared.restart.Restart.{Restart}
 use Rattle.mlp_syntax.specs.declared.params.Params.{Params}
 use Rattle.mlp_syntax.specs.declared.segment.BlockHead.{BlockHead}
-use Rattle.mlp_syntax.specs.declared.segment.FrameCode.{FrameCode}
-use Rattle.mlp_layout.specs.Layout.{Layout, seen, ruled, part, made, tested, never}
+use Rattle.mlp_layout.specs.Layout.{Layout, seen, ruled, part, made, tested}
 use Rattle.mlp_layout.specs.Combined.{under, flag, chosen, present}
 use Rattle.mlp_params.specs.declared.state.State.{State}
 use Rattle.mlp_params.specs.Allowed.{Allowed}

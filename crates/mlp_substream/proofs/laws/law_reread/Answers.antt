@@ -1,4 +1,4 @@
-use Rattle.std.proofs.Common.{◌≡◌, Bool, List, sym, subst}
+use Rattle.std.proofs.Common.{◌≡◌, Bool, sym, subst}
 use Rattle.mlp_substream.specs.Segment.{segment}
 use Rattle.mlp_substream.proofs.RoundTrip.{is_checked, found_there}
 use Rattle.mlp_substream.proofs.laws.law_reread.Goals as goal

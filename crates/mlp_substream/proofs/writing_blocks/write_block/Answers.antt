@@ -1,4 +1,4 @@
-use Rattle.std.proofs.Common.{◌≡◌, ℕ, List, length, Option, sym, ap, subst, ◌∙◌}
+use Rattle.std.proofs.Common.{ℕ, length, Option, sym, ap, subst, ◌∙◌}
 use Rattle.mlp_layout.specs.Writing.{Writes}
 use Rattle.mlp_layout.proofs.WritingLaws.{then_writes, stops_writing, writes_as}
 use Rattle.mlp_params.specs.declared.state.State.{State}

@@ -1,4 +1,4 @@
-use Rattle.std.proofs.Common.{Bool, true, false, List, subst, sym}
+use Rattle.std.proofs.Common.{Bool, false, subst, sym}
 use Rattle.mlp_layout.specs.Layout.{made}
 use Rattle.mlp_layout.specs.Combined.{flag, chosen}
 use Rattle.mlp_layout.specs.Writing.{Writes}

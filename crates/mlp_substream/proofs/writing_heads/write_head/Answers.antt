@@ -1,4 +1,4 @@
-use Rattle.std.proofs.Common.{Bool, List, ◌++◌}
+use Rattle.std.proofs.Common.{◌++◌}
 use Rattle.std.specs.Prelude.{is_some}
 use Rattle.mlp_layout.specs.Combined.{present}
 use Rattle.mlp_layout.proofs.WritingLaws.{then_writes, stops_writing, stops_last, writes_as}
