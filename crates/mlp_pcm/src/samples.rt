@@ -136,9 +136,9 @@ pub fn unpack(bytes: &[u8], width: u8, depth: u8, channels: u8, out: &mut Frames
 {
     out.channels = channels;
     out.rows.clear();
-    match depth {
-        16 => unpack_channels(bytes, 2, 16, channels, out),
-        20 => unpack_channels(bytes, 3, 20, channels, out),
+    match (width, depth) {
+        (2, _) => unpack_channels(bytes, 2, 16, channels, out),
+        (_, 20) => unpack_channels(bytes, 3, 20, channels, out),
         _ => unpack_channels(bytes, 3, 24, channels, out),
     }
 }
