@@ -58,28 +58,28 @@ dot_left8 z0 z1 c2 c3 c4 c5 a b more = omega (arith, ints)
 dot_right8 : (z0 z1 c2 c3 c4 c5 a b : ℤ) (more : List ℤ) → dot (weights (row 1 14 false (right (negsuc 5792)))) (z0 ∷ z1 ∷ c2 ∷ c3 ∷ c4 ∷ c5 ∷ a ∷ b ∷ more) ≡ pos 16384 *ℤ z1 +ℤ (negsuc 11584 *ℤ c2 +ℤ negsuc 5792 *ℤ c5)
 dot_right8 z0 z1 c2 c3 c4 c5 a b more = omega (arith, ints)
 
-dot_half4 : (z0 z1 c2 c3 c4 c5 a b : ℤ) (more : List ℤ) → dot (weights (row 4 14 false (on 4 (pos 8192)))) (z0 ∷ z1 ∷ c2 ∷ c3 ∷ c4 ∷ c5 ∷ a ∷ b ∷ more) ≡ pos 8192 *ℤ c4
+dot_half4 : (z0 z1 c2 c3 c4 c5 a b : ℤ) (more : List ℤ) → dot (weights (row 4 14 false (on ((4, pos 8192) ∷ [])))) (z0 ∷ z1 ∷ c2 ∷ c3 ∷ c4 ∷ c5 ∷ a ∷ b ∷ more) ≡ pos 8192 *ℤ c4
 dot_half4 z0 z1 c2 c3 c4 c5 a b more = omega (arith, ints)
 
-dot_half5 : (z0 z1 c2 c3 c4 c5 a b : ℤ) (more : List ℤ) → dot (weights (row 5 14 false (on 5 (pos 8192)))) (z0 ∷ z1 ∷ c2 ∷ c3 ∷ c4 ∷ c5 ∷ a ∷ b ∷ more) ≡ pos 8192 *ℤ c5
+dot_half5 : (z0 z1 c2 c3 c4 c5 a b : ℤ) (more : List ℤ) → dot (weights (row 5 14 false (on ((5, pos 8192) ∷ [])))) (z0 ∷ z1 ∷ c2 ∷ c3 ∷ c4 ∷ c5 ∷ a ∷ b ∷ more) ≡ pos 8192 *ℤ c5
 dot_half5 z0 z1 c2 c3 c4 c5 a b more = omega (arith, ints)
 
-dot_back4 : (z0 z1 c2 c3 c4 c5 a b : ℤ) (more : List ℤ) → dot (weights (row 4 14 false (None ∷ None ∷ None ∷ None ∷ Some (pos 16384) ∷ None ∷ Some (negsuc 16383) ∷ None ∷ []))) (z0 ∷ z1 ∷ c2 ∷ c3 ∷ c4 ∷ c5 ∷ a ∷ b ∷ more) ≡ (c4 -ℤ a) *ℤ pos 16384
+dot_back4 : (z0 z1 c2 c3 c4 c5 a b : ℤ) (more : List ℤ) → dot (weights (row 4 14 false (on ((4, pos 16384) ∷ (6, negsuc 16383) ∷ [])))) (z0 ∷ z1 ∷ c2 ∷ c3 ∷ c4 ∷ c5 ∷ a ∷ b ∷ more) ≡ (c4 -ℤ a) *ℤ pos 16384
 dot_back4 z0 z1 c2 c3 c4 c5 a b more = omega (arith, ints)
 
-dot_back5 : (z0 z1 c2 c3 c4 c5 a b : ℤ) (more : List ℤ) → dot (weights (row 5 14 false (None ∷ None ∷ None ∷ None ∷ None ∷ Some (pos 16384) ∷ None ∷ Some (negsuc 16383) ∷ []))) (z0 ∷ z1 ∷ c2 ∷ c3 ∷ c4 ∷ c5 ∷ a ∷ b ∷ more) ≡ (c5 -ℤ b) *ℤ pos 16384
+dot_back5 : (z0 z1 c2 c3 c4 c5 a b : ℤ) (more : List ℤ) → dot (weights (row 5 14 false (on ((5, pos 16384) ∷ (7, negsuc 16383) ∷ [])))) (z0 ∷ z1 ∷ c2 ∷ c3 ∷ c4 ∷ c5 ∷ a ∷ b ∷ more) ≡ (c5 -ℤ b) *ℤ pos 16384
 dot_back5 z0 z1 c2 c3 c4 c5 a b more = omega (arith, ints)
 
-pub dot_one2 : (z0 z1 c2 c3 c4 c5 a b : ℤ) (more : List ℤ) → dot (weights (row 2 0 true (on 2 (pos 1)))) (z0 ∷ z1 ∷ c2 ∷ c3 ∷ c4 ∷ c5 ∷ a ∷ b ∷ more) ≡ c2 *ℤ pos 16384
+pub dot_one2 : (z0 z1 c2 c3 c4 c5 a b : ℤ) (more : List ℤ) → dot (weights (row 2 0 true (on ((2, pos 1) ∷ [])))) (z0 ∷ z1 ∷ c2 ∷ c3 ∷ c4 ∷ c5 ∷ a ∷ b ∷ more) ≡ c2 *ℤ pos 16384
 dot_one2 z0 z1 c2 c3 c4 c5 a b more = omega (arith, ints)
 
-pub dot_one3 : (z0 z1 c2 c3 c4 c5 a b : ℤ) (more : List ℤ) → dot (weights (row 3 0 true (on 3 (pos 1)))) (z0 ∷ z1 ∷ c2 ∷ c3 ∷ c4 ∷ c5 ∷ a ∷ b ∷ more) ≡ c3 *ℤ pos 16384
+pub dot_one3 : (z0 z1 c2 c3 c4 c5 a b : ℤ) (more : List ℤ) → dot (weights (row 3 0 true (on ((3, pos 1) ∷ [])))) (z0 ∷ z1 ∷ c2 ∷ c3 ∷ c4 ∷ c5 ∷ a ∷ b ∷ more) ≡ c3 *ℤ pos 16384
 dot_one3 z0 z1 c2 c3 c4 c5 a b more = omega (arith, ints)
 
-pub dot_one4 : (z0 z1 c2 c3 c4 c5 a b : ℤ) (more : List ℤ) → dot (weights (row 4 0 true (on 4 (pos 1)))) (z0 ∷ z1 ∷ c2 ∷ c3 ∷ c4 ∷ c5 ∷ a ∷ b ∷ more) ≡ c4 *ℤ pos 16384
+pub dot_one4 : (z0 z1 c2 c3 c4 c5 a b : ℤ) (more : List ℤ) → dot (weights (row 4 0 true (on ((4, pos 1) ∷ [])))) (z0 ∷ z1 ∷ c2 ∷ c3 ∷ c4 ∷ c5 ∷ a ∷ b ∷ more) ≡ c4 *ℤ pos 16384
 dot_one4 z0 z1 c2 c3 c4 c5 a b more = omega (arith, ints)
 
-pub dot_one5 : (z0 z1 c2 c3 c4 c5 a b : ℤ) (more : List ℤ) → dot (weights (row 5 0 true (on 5 (pos 1)))) (z0 ∷ z1 ∷ c2 ∷ c3 ∷ c4 ∷ c5 ∷ a ∷ b ∷ more) ≡ c5 *ℤ pos 16384
+pub dot_one5 : (z0 z1 c2 c3 c4 c5 a b : ℤ) (more : List ℤ) → dot (weights (row 5 0 true (on ((5, pos 1) ∷ [])))) (z0 ∷ z1 ∷ c2 ∷ c3 ∷ c4 ∷ c5 ∷ a ∷ b ∷ more) ≡ c5 *ℤ pos 16384
 dot_one5 z0 z1 c2 c3 c4 c5 a b more = omega (arith, ints)
 
 dot_stereo0 : (z0 z1 a b : ℤ) (more : List ℤ) → dot (weights (row 0 14 false (Some (pos 6786) ∷ None ∷ None ∷ None ∷ []))) (z0 ∷ z1 ∷ a ∷ b ∷ more) ≡ pos 6786 *ℤ z0
@@ -151,11 +151,11 @@ fold8_middle q x a b more l h =
     let f3 : IsSample q (at x 7) = h 7 (omega arith) in
     let e0 = raised_by q (at x 0) s0 (dot (weights (row 0 14 false (left (negsuc 5792)))) (z0 ∷ z1 ∷ at x 2 ∷ at x 3 ∷ z4 ∷ z5 ∷ a ∷ b ∷ more)) (h 0 (omega arith)) (dot_left8 z0 z1 (at x 2) (at x 3) z4 z5 a b more) in
     let e1 = raised_by q (at x 1) s1 (dot (weights (row 1 14 false (right (negsuc 5792)))) (at x 0 ∷ z1 ∷ at x 2 ∷ at x 3 ∷ z4 ∷ z5 ∷ a ∷ b ∷ more)) (h 1 (omega arith)) (dot_right8 (at x 0) z1 (at x 2) (at x 3) z4 z5 a b more) in
-    let e4 = halved_kept q z4 (dot (weights (row 4 14 false (on 4 (pos 8192)))) (at x 0 ∷ at x 1 ∷ at x 2 ∷ at x 3 ∷ z4 ∷ z5 ∷ a ∷ b ∷ more)) l (omega (arith, ints, f0.low, f1.low)) (omega (arith, ints, f0.high, f1.high)) (dot_half4 (at x 0) (at x 1) (at x 2) (at x 3) z4 z5 a b more) in
-    let e5 = halved_kept q z5 (dot (weights (row 5 14 false (on 5 (pos 8192)))) (at x 0 ∷ at x 1 ∷ at x 2 ∷ at x 3 ∷ halved q z4 ∷ z5 ∷ a ∷ b ∷ more)) l (omega (arith, ints, f2.low, f3.low)) (omega (arith, ints, f2.high, f3.high)) (dot_half5 (at x 0) (at x 1) (at x 2) (at x 3) (halved q z4) z5 a b more) in
-    ap (λ (v : ℤ). v ∷ wrap (clear q (floor_by 14 (dot (weights (row 1 14 false (right (negsuc 5792)))) (v ∷ z1 ∷ at x 2 ∷ at x 3 ∷ z4 ∷ z5 ∷ a ∷ b ∷ more))) +ℤ pos 0) ∷ at x 2 ∷ at x 3 ∷ wrap (clear q (floor_by 14 (dot (weights (row 4 14 false (on 4 (pos 8192)))) (v ∷ wrap (clear q (floor_by 14 (dot (weights (row 1 14 false (right (negsuc 5792)))) (v ∷ z1 ∷ at x 2 ∷ at x 3 ∷ z4 ∷ z5 ∷ a ∷ b ∷ more))) +ℤ pos 0) ∷ at x 2 ∷ at x 3 ∷ z4 ∷ z5 ∷ a ∷ b ∷ more))) +ℤ pos 0) ∷ wrap (clear q (floor_by 14 (dot (weights (row 5 14 false (on 5 (pos 8192)))) (v ∷ wrap (clear q (floor_by 14 (dot (weights (row 1 14 false (right (negsuc 5792)))) (v ∷ z1 ∷ at x 2 ∷ at x 3 ∷ z4 ∷ z5 ∷ a ∷ b ∷ more))) +ℤ pos 0) ∷ at x 2 ∷ at x 3 ∷ wrap (clear q (floor_by 14 (dot (weights (row 4 14 false (on 4 (pos 8192)))) (v ∷ wrap (clear q (floor_by 14 (dot (weights (row 1 14 false (right (negsuc 5792)))) (v ∷ z1 ∷ at x 2 ∷ at x 3 ∷ z4 ∷ z5 ∷ a ∷ b ∷ more))) +ℤ pos 0) ∷ at x 2 ∷ at x 3 ∷ z4 ∷ z5 ∷ a ∷ b ∷ more))) +ℤ pos 0) ∷ z5 ∷ a ∷ b ∷ more))) +ℤ pos 0) ∷ a ∷ b ∷ more) e0
-    ∙ ap (λ (v : ℤ). at x 0 ∷ v ∷ at x 2 ∷ at x 3 ∷ wrap (clear q (floor_by 14 (dot (weights (row 4 14 false (on 4 (pos 8192)))) (at x 0 ∷ v ∷ at x 2 ∷ at x 3 ∷ z4 ∷ z5 ∷ a ∷ b ∷ more))) +ℤ pos 0) ∷ wrap (clear q (floor_by 14 (dot (weights (row 5 14 false (on 5 (pos 8192)))) (at x 0 ∷ v ∷ at x 2 ∷ at x 3 ∷ wrap (clear q (floor_by 14 (dot (weights (row 4 14 false (on 4 (pos 8192)))) (at x 0 ∷ v ∷ at x 2 ∷ at x 3 ∷ z4 ∷ z5 ∷ a ∷ b ∷ more))) +ℤ pos 0) ∷ z5 ∷ a ∷ b ∷ more))) +ℤ pos 0) ∷ a ∷ b ∷ more) e1
-    ∙ ap (λ (v : ℤ). at x 0 ∷ at x 1 ∷ at x 2 ∷ at x 3 ∷ v ∷ wrap (clear q (floor_by 14 (dot (weights (row 5 14 false (on 5 (pos 8192)))) (at x 0 ∷ at x 1 ∷ at x 2 ∷ at x 3 ∷ v ∷ z5 ∷ a ∷ b ∷ more))) +ℤ pos 0) ∷ a ∷ b ∷ more) e4
+    let e4 = halved_kept q z4 (dot (weights (row 4 14 false (on ((4, pos 8192) ∷ [])))) (at x 0 ∷ at x 1 ∷ at x 2 ∷ at x 3 ∷ z4 ∷ z5 ∷ a ∷ b ∷ more)) l (omega (arith, ints, f0.low, f1.low)) (omega (arith, ints, f0.high, f1.high)) (dot_half4 (at x 0) (at x 1) (at x 2) (at x 3) z4 z5 a b more) in
+    let e5 = halved_kept q z5 (dot (weights (row 5 14 false (on ((5, pos 8192) ∷ [])))) (at x 0 ∷ at x 1 ∷ at x 2 ∷ at x 3 ∷ halved q z4 ∷ z5 ∷ a ∷ b ∷ more)) l (omega (arith, ints, f2.low, f3.low)) (omega (arith, ints, f2.high, f3.high)) (dot_half5 (at x 0) (at x 1) (at x 2) (at x 3) (halved q z4) z5 a b more) in
+    ap (λ (v : ℤ). v ∷ wrap (clear q (floor_by 14 (dot (weights (row 1 14 false (right (negsuc 5792)))) (v ∷ z1 ∷ at x 2 ∷ at x 3 ∷ z4 ∷ z5 ∷ a ∷ b ∷ more))) +ℤ pos 0) ∷ at x 2 ∷ at x 3 ∷ wrap (clear q (floor_by 14 (dot (weights (row 4 14 false (on ((4, pos 8192) ∷ [])))) (v ∷ wrap (clear q (floor_by 14 (dot (weights (row 1 14 false (right (negsuc 5792)))) (v ∷ z1 ∷ at x 2 ∷ at x 3 ∷ z4 ∷ z5 ∷ a ∷ b ∷ more))) +ℤ pos 0) ∷ at x 2 ∷ at x 3 ∷ z4 ∷ z5 ∷ a ∷ b ∷ more))) +ℤ pos 0) ∷ wrap (clear q (floor_by 14 (dot (weights (row 5 14 false (on ((5, pos 8192) ∷ [])))) (v ∷ wrap (clear q (floor_by 14 (dot (weights (row 1 14 false (right (negsuc 5792)))) (v ∷ z1 ∷ at x 2 ∷ at x 3 ∷ z4 ∷ z5 ∷ a ∷ b ∷ more))) +ℤ pos 0) ∷ at x 2 ∷ at x 3 ∷ wrap (clear q (floor_by 14 (dot (weights (row 4 14 false (on ((4, pos 8192) ∷ [])))) (v ∷ wrap (clear q (floor_by 14 (dot (weights (row 1 14 false (right (negsuc 5792)))) (v ∷ z1 ∷ at x 2 ∷ at x 3 ∷ z4 ∷ z5 ∷ a ∷ b ∷ more))) +ℤ pos 0) ∷ at x 2 ∷ at x 3 ∷ z4 ∷ z5 ∷ a ∷ b ∷ more))) +ℤ pos 0) ∷ z5 ∷ a ∷ b ∷ more))) +ℤ pos 0) ∷ a ∷ b ∷ more) e0
+    ∙ ap (λ (v : ℤ). at x 0 ∷ v ∷ at x 2 ∷ at x 3 ∷ wrap (clear q (floor_by 14 (dot (weights (row 4 14 false (on ((4, pos 8192) ∷ [])))) (at x 0 ∷ v ∷ at x 2 ∷ at x 3 ∷ z4 ∷ z5 ∷ a ∷ b ∷ more))) +ℤ pos 0) ∷ wrap (clear q (floor_by 14 (dot (weights (row 5 14 false (on ((5, pos 8192) ∷ [])))) (at x 0 ∷ v ∷ at x 2 ∷ at x 3 ∷ wrap (clear q (floor_by 14 (dot (weights (row 4 14 false (on ((4, pos 8192) ∷ [])))) (at x 0 ∷ v ∷ at x 2 ∷ at x 3 ∷ z4 ∷ z5 ∷ a ∷ b ∷ more))) +ℤ pos 0) ∷ z5 ∷ a ∷ b ∷ more))) +ℤ pos 0) ∷ a ∷ b ∷ more) e1
+    ∙ ap (λ (v : ℤ). at x 0 ∷ at x 1 ∷ at x 2 ∷ at x 3 ∷ v ∷ wrap (clear q (floor_by 14 (dot (weights (row 5 14 false (on ((5, pos 8192) ∷ [])))) (at x 0 ∷ at x 1 ∷ at x 2 ∷ at x 3 ∷ v ∷ z5 ∷ a ∷ b ∷ more))) +ℤ pos 0) ∷ a ∷ b ∷ more) e4
     ∙ ap (λ (v : ℤ). at x 0 ∷ at x 1 ∷ at x 2 ∷ at x 3 ∷ halved q (at x 4 +ℤ at x 6) ∷ v ∷ a ∷ b ∷ more) e5
 
 fold8_top : (q : ℕ) (x : List ℤ) (a b : ℤ) (more : List ℤ) → q ≤ 8 → ((c : ℕ) → c < 8 → IsSample q (at x c)) →
@@ -173,11 +173,11 @@ fold8_top q x a b more l h =
     let f3 : IsSample q (at x 7) = h 7 (omega arith) in
     let e0 = raised_by q (at x 0) s0 (dot (weights (row 0 14 false (left (negsuc 5792)))) (z0 ∷ z1 ∷ at x 2 ∷ at x 3 ∷ z4 ∷ z5 ∷ at x 6 ∷ at x 7 ∷ a ∷ b ∷ more)) (h 0 (omega arith)) (dot_left8 z0 z1 (at x 2) (at x 3) z4 z5 (at x 6) (at x 7) (a ∷ b ∷ more)) in
     let e1 = raised_by q (at x 1) s1 (dot (weights (row 1 14 false (right (negsuc 5792)))) (at x 0 ∷ z1 ∷ at x 2 ∷ at x 3 ∷ z4 ∷ z5 ∷ at x 6 ∷ at x 7 ∷ a ∷ b ∷ more)) (h 1 (omega arith)) (dot_right8 (at x 0) z1 (at x 2) (at x 3) z4 z5 (at x 6) (at x 7) (a ∷ b ∷ more)) in
-    let e4 = exact q (at x 4) (dot (weights (row 4 14 false (None ∷ None ∷ None ∷ None ∷ Some (pos 16384) ∷ None ∷ Some (negsuc 16383) ∷ None ∷ []))) (at x 0 ∷ at x 1 ∷ at x 2 ∷ at x 3 ∷ z4 ∷ z5 ∷ at x 6 ∷ at x 7 ∷ a ∷ b ∷ more)) f0 (dot_back4 (at x 0) (at x 1) (at x 2) (at x 3) z4 z5 (at x 6) (at x 7) (a ∷ b ∷ more) ∙ omega (arith, ints)) in
-    let e5 = exact q (at x 5) (dot (weights (row 5 14 false (None ∷ None ∷ None ∷ None ∷ None ∷ Some (pos 16384) ∷ None ∷ Some (negsuc 16383) ∷ []))) (at x 0 ∷ at x 1 ∷ at x 2 ∷ at x 3 ∷ at x 4 ∷ z5 ∷ at x 6 ∷ at x 7 ∷ a ∷ b ∷ more)) f2 (dot_back5 (at x 0) (at x 1) (at x 2) (at x 3) (at x 4) z5 (at x 6) (at x 7) (a ∷ b ∷ more) ∙ omega (arith, ints)) in
-    ap (λ (v : ℤ). v ∷ wrap (clear q (floor_by 14 (dot (weights (row 1 14 false (right (negsuc 5792)))) (v ∷ z1 ∷ at x 2 ∷ at x 3 ∷ z4 ∷ z5 ∷ at x 6 ∷ at x 7 ∷ a ∷ b ∷ more))) +ℤ pos 0) ∷ at x 2 ∷ at x 3 ∷ wrap (clear q (floor_by 14 (dot (weights (row 4 14 false (None ∷ None ∷ None ∷ None ∷ Some (pos 16384) ∷ None ∷ Some (negsuc 16383) ∷ None ∷ []))) (v ∷ wrap (clear q (floor_by 14 (dot (weights (row 1 14 false (right (negsuc 5792)))) (v ∷ z1 ∷ at x 2 ∷ at x 3 ∷ z4 ∷ z5 ∷ at x 6 ∷ at x 7 ∷ a ∷ b ∷ more))) +ℤ pos 0) ∷ at x 2 ∷ at x 3 ∷ z4 ∷ z5 ∷ at x 6 ∷ at x 7 ∷ a ∷ b ∷ more))) +ℤ pos 0) ∷ wrap (clear q (floor_by 14 (dot (weights (row 5 14 false (None ∷ None ∷ None ∷ None ∷ None ∷ Some (pos 16384) ∷ None ∷ Some (negsuc 16383) ∷ []))) (v ∷ wrap (clear q (floor_by 14 (dot (weights (row 1 14 false (right (negsuc 5792)))) (v ∷ z1 ∷ at x 2 ∷ at x 3 ∷ z4 ∷ z5 ∷ at x 6 ∷ at x 7 ∷ a ∷ b ∷ more))) +ℤ pos 0) ∷ at x 2 ∷ at x 3 ∷ wrap (clear q (floor_by 14 (dot (weights (row 4 14 false (None ∷ None ∷ None ∷ None ∷ Some (pos 16384) ∷ None ∷ Some (negsuc 16383) ∷ None ∷ []))) (v ∷ wrap (clear q (floor_by 14 (dot (weights (row 1 14 false (right (negsuc 5792)))) (v ∷ z1 ∷ at x 2 ∷ at x 3 ∷ z4 ∷ z5 ∷ at x 6 ∷ at x 7 ∷ a ∷ b ∷ more))) +ℤ pos 0) ∷ at x 2 ∷ at x 3 ∷ z4 ∷ z5 ∷ at x 6 ∷ at x 7 ∷ a ∷ b ∷ more))) +ℤ pos 0) ∷ z5 ∷ at x 6 ∷ at x 7 ∷ a ∷ b ∷ more))) +ℤ pos 0) ∷ at x 6 ∷ at x 7 ∷ a ∷ b ∷ more) e0
-    ∙ ap (λ (v : ℤ). at x 0 ∷ v ∷ at x 2 ∷ at x 3 ∷ wrap (clear q (floor_by 14 (dot (weights (row 4 14 false (None ∷ None ∷ None ∷ None ∷ Some (pos 16384) ∷ None ∷ Some (negsuc 16383) ∷ None ∷ []))) (at x 0 ∷ v ∷ at x 2 ∷ at x 3 ∷ z4 ∷ z5 ∷ at x 6 ∷ at x 7 ∷ a ∷ b ∷ more))) +ℤ pos 0) ∷ wrap (clear q (floor_by 14 (dot (weights (row 5 14 false (None ∷ None ∷ None ∷ None ∷ None ∷ Some (pos 16384) ∷ None ∷ Some (negsuc 16383) ∷ []))) (at x 0 ∷ v ∷ at x 2 ∷ at x 3 ∷ wrap (clear q (floor_by 14 (dot (weights (row 4 14 false (None ∷ None ∷ None ∷ None ∷ Some (pos 16384) ∷ None ∷ Some (negsuc 16383) ∷ None ∷ []))) (at x 0 ∷ v ∷ at x 2 ∷ at x 3 ∷ z4 ∷ z5 ∷ at x 6 ∷ at x 7 ∷ a ∷ b ∷ more))) +ℤ pos 0) ∷ z5 ∷ at x 6 ∷ at x 7 ∷ a ∷ b ∷ more))) +ℤ pos 0) ∷ at x 6 ∷ at x 7 ∷ a ∷ b ∷ more) e1
-    ∙ ap (λ (v : ℤ). at x 0 ∷ at x 1 ∷ at x 2 ∷ at x 3 ∷ v ∷ wrap (clear q (floor_by 14 (dot (weights (row 5 14 false (None ∷ None ∷ None ∷ None ∷ None ∷ Some (pos 16384) ∷ None ∷ Some (negsuc 16383) ∷ []))) (at x 0 ∷ at x 1 ∷ at x 2 ∷ at x 3 ∷ v ∷ z5 ∷ at x 6 ∷ at x 7 ∷ a ∷ b ∷ more))) +ℤ pos 0) ∷ at x 6 ∷ at x 7 ∷ a ∷ b ∷ more) e4
+    let e4 = exact q (at x 4) (dot (weights (row 4 14 false (on ((4, pos 16384) ∷ (6, negsuc 16383) ∷ [])))) (at x 0 ∷ at x 1 ∷ at x 2 ∷ at x 3 ∷ z4 ∷ z5 ∷ at x 6 ∷ at x 7 ∷ a ∷ b ∷ more)) f0 (dot_back4 (at x 0) (at x 1) (at x 2) (at x 3) z4 z5 (at x 6) (at x 7) (a ∷ b ∷ more) ∙ omega (arith, ints)) in
+    let e5 = exact q (at x 5) (dot (weights (row 5 14 false (on ((5, pos 16384) ∷ (7, negsuc 16383) ∷ [])))) (at x 0 ∷ at x 1 ∷ at x 2 ∷ at x 3 ∷ at x 4 ∷ z5 ∷ at x 6 ∷ at x 7 ∷ a ∷ b ∷ more)) f2 (dot_back5 (at x 0) (at x 1) (at x 2) (at x 3) (at x 4) z5 (at x 6) (at x 7) (a ∷ b ∷ more) ∙ omega (arith, ints)) in
+    ap (λ (v : ℤ). v ∷ wrap (clear q (floor_by 14 (dot (weights (row 1 14 false (right (negsuc 5792)))) (v ∷ z1 ∷ at x 2 ∷ at x 3 ∷ z4 ∷ z5 ∷ at x 6 ∷ at x 7 ∷ a ∷ b ∷ more))) +ℤ pos 0) ∷ at x 2 ∷ at x 3 ∷ wrap (clear q (floor_by 14 (dot (weights (row 4 14 false (on ((4, pos 16384) ∷ (6, negsuc 16383) ∷ [])))) (v ∷ wrap (clear q (floor_by 14 (dot (weights (row 1 14 false (right (negsuc 5792)))) (v ∷ z1 ∷ at x 2 ∷ at x 3 ∷ z4 ∷ z5 ∷ at x 6 ∷ at x 7 ∷ a ∷ b ∷ more))) +ℤ pos 0) ∷ at x 2 ∷ at x 3 ∷ z4 ∷ z5 ∷ at x 6 ∷ at x 7 ∷ a ∷ b ∷ more))) +ℤ pos 0) ∷ wrap (clear q (floor_by 14 (dot (weights (row 5 14 false (on ((5, pos 16384) ∷ (7, negsuc 16383) ∷ [])))) (v ∷ wrap (clear q (floor_by 14 (dot (weights (row 1 14 false (right (negsuc 5792)))) (v ∷ z1 ∷ at x 2 ∷ at x 3 ∷ z4 ∷ z5 ∷ at x 6 ∷ at x 7 ∷ a ∷ b ∷ more))) +ℤ pos 0) ∷ at x 2 ∷ at x 3 ∷ wrap (clear q (floor_by 14 (dot (weights (row 4 14 false (on ((4, pos 16384) ∷ (6, negsuc 16383) ∷ [])))) (v ∷ wrap (clear q (floor_by 14 (dot (weights (row 1 14 false (right (negsuc 5792)))) (v ∷ z1 ∷ at x 2 ∷ at x 3 ∷ z4 ∷ z5 ∷ at x 6 ∷ at x 7 ∷ a ∷ b ∷ more))) +ℤ pos 0) ∷ at x 2 ∷ at x 3 ∷ z4 ∷ z5 ∷ at x 6 ∷ at x 7 ∷ a ∷ b ∷ more))) +ℤ pos 0) ∷ z5 ∷ at x 6 ∷ at x 7 ∷ a ∷ b ∷ more))) +ℤ pos 0) ∷ at x 6 ∷ at x 7 ∷ a ∷ b ∷ more) e0
+    ∙ ap (λ (v : ℤ). at x 0 ∷ v ∷ at x 2 ∷ at x 3 ∷ wrap (clear q (floor_by 14 (dot (weights (row 4 14 false (on ((4, pos 16384) ∷ (6, negsuc 16383) ∷ [])))) (at x 0 ∷ v ∷ at x 2 ∷ at x 3 ∷ z4 ∷ z5 ∷ at x 6 ∷ at x 7 ∷ a ∷ b ∷ more))) +ℤ pos 0) ∷ wrap (clear q (floor_by 14 (dot (weights (row 5 14 false (on ((5, pos 16384) ∷ (7, negsuc 16383) ∷ [])))) (at x 0 ∷ v ∷ at x 2 ∷ at x 3 ∷ wrap (clear q (floor_by 14 (dot (weights (row 4 14 false (on ((4, pos 16384) ∷ (6, negsuc 16383) ∷ [])))) (at x 0 ∷ v ∷ at x 2 ∷ at x 3 ∷ z4 ∷ z5 ∷ at x 6 ∷ at x 7 ∷ a ∷ b ∷ more))) +ℤ pos 0) ∷ z5 ∷ at x 6 ∷ at x 7 ∷ a ∷ b ∷ more))) +ℤ pos 0) ∷ at x 6 ∷ at x 7 ∷ a ∷ b ∷ more) e1
+    ∙ ap (λ (v : ℤ). at x 0 ∷ at x 1 ∷ at x 2 ∷ at x 3 ∷ v ∷ wrap (clear q (floor_by 14 (dot (weights (row 5 14 false (on ((5, pos 16384) ∷ (7, negsuc 16383) ∷ [])))) (at x 0 ∷ at x 1 ∷ at x 2 ∷ at x 3 ∷ v ∷ z5 ∷ at x 6 ∷ at x 7 ∷ a ∷ b ∷ more))) +ℤ pos 0) ∷ at x 6 ∷ at x 7 ∷ a ∷ b ∷ more) e4
     ∙ ap (λ (v : ℤ). at x 0 ∷ at x 1 ∷ at x 2 ∷ at x 3 ∷ at x 4 ∷ v ∷ at x 6 ∷ at x 7 ∷ a ∷ b ∷ more) e5
 
 -- ---- Bypass
@@ -275,13 +275,13 @@ bypass_top : (q : ℕ) (x : List ℤ) (a b : ℤ) (more : List ℤ) → ((c : �
     applied (bypass_rows 1) (bypass_steps 1) (bypass_of Bypass x) (take 6 (coded_bypass x) ++ a ∷ b ∷ more) ≡ at x 0 ∷ at x 1 ∷ at x 2 ∷ at x 3 ∷ at x 4 ∷ at x 5 ∷ a ∷ b ∷ more
 bypass_top q x a b more h =
     let n : ℕ = bypass_of Bypass x in
-    let e2 = bit_put (at x 2) (dot (weights (row 2 0 true (on 2 (pos 1)))) (at x 0 ∷ at x 1 ∷ clear 1 (at x 2) ∷ clear 1 (at x 3) ∷ clear 1 (at x 4) ∷ clear 1 (at x 5) ∷ a ∷ b ∷ more)) (has_bit n 0) (sample_fits q (at x 2) (h 2 (omega arith))) (dot_one2 (at x 0) (at x 1) (clear 1 (at x 2)) (clear 1 (at x 3)) (clear 1 (at x 4)) (clear 1 (at x 5)) a b more) (bit0 (is_even (at x 2)) (is_even (at x 3)) (is_even (at x 4)) (is_even (at x 5))) in
-    let e3 = bit_put (at x 3) (dot (weights (row 3 0 true (on 3 (pos 1)))) (at x 0 ∷ at x 1 ∷ at x 2 ∷ clear 1 (at x 3) ∷ clear 1 (at x 4) ∷ clear 1 (at x 5) ∷ a ∷ b ∷ more)) (has_bit n 1) (sample_fits q (at x 3) (h 3 (omega arith))) (dot_one3 (at x 0) (at x 1) (at x 2) (clear 1 (at x 3)) (clear 1 (at x 4)) (clear 1 (at x 5)) a b more) (bit1 (is_even (at x 2)) (is_even (at x 3)) (is_even (at x 4)) (is_even (at x 5))) in
-    let e4 = bit_put (at x 4) (dot (weights (row 4 0 true (on 4 (pos 1)))) (at x 0 ∷ at x 1 ∷ at x 2 ∷ at x 3 ∷ clear 1 (at x 4) ∷ clear 1 (at x 5) ∷ a ∷ b ∷ more)) (has_bit n 2) (sample_fits q (at x 4) (h 4 (omega arith))) (dot_one4 (at x 0) (at x 1) (at x 2) (at x 3) (clear 1 (at x 4)) (clear 1 (at x 5)) a b more) (bit2 (is_even (at x 2)) (is_even (at x 3)) (is_even (at x 4)) (is_even (at x 5))) in
-    let e5 = bit_put (at x 5) (dot (weights (row 5 0 true (on 5 (pos 1)))) (at x 0 ∷ at x 1 ∷ at x 2 ∷ at x 3 ∷ at x 4 ∷ clear 1 (at x 5) ∷ a ∷ b ∷ more)) (has_bit n 3) (sample_fits q (at x 5) (h 5 (omega arith))) (dot_one5 (at x 0) (at x 1) (at x 2) (at x 3) (at x 4) (clear 1 (at x 5)) a b more) (bit3 (is_even (at x 2)) (is_even (at x 3)) (is_even (at x 4)) (is_even (at x 5))) in
-    ap (λ (v : ℤ). at x 0 ∷ at x 1 ∷ v ∷ wrap (clear 1 (floor_by 14 (dot (weights (row 3 0 true (on 3 (pos 1)))) (at x 0 ∷ at x 1 ∷ v ∷ clear 1 (at x 3) ∷ clear 1 (at x 4) ∷ clear 1 (at x 5) ∷ a ∷ b ∷ more))) +ℤ bit_of (has_bit n 1)) ∷ wrap (clear 1 (floor_by 14 (dot (weights (row 4 0 true (on 4 (pos 1)))) (at x 0 ∷ at x 1 ∷ v ∷ wrap (clear 1 (floor_by 14 (dot (weights (row 3 0 true (on 3 (pos 1)))) (at x 0 ∷ at x 1 ∷ v ∷ clear 1 (at x 3) ∷ clear 1 (at x 4) ∷ clear 1 (at x 5) ∷ a ∷ b ∷ more))) +ℤ bit_of (has_bit n 1)) ∷ clear 1 (at x 4) ∷ clear 1 (at x 5) ∷ a ∷ b ∷ more))) +ℤ bit_of (has_bit n 2)) ∷ wrap (clear 1 (floor_by 14 (dot (weights (row 5 0 true (on 5 (pos 1)))) (at x 0 ∷ at x 1 ∷ v ∷ wrap (clear 1 (floor_by 14 (dot (weights (row 3 0 true (on 3 (pos 1)))) (at x 0 ∷ at x 1 ∷ v ∷ clear 1 (at x 3) ∷ clear 1 (at x 4) ∷ clear 1 (at x 5) ∷ a ∷ b ∷ more))) +ℤ bit_of (has_bit n 1)) ∷ wrap (clear 1 (floor_by 14 (dot (weights (row 4 0 true (on 4 (pos 1)))) (at x 0 ∷ at x 1 ∷ v ∷ wrap (clear 1 (floor_by 14 (dot (weights (row 3 0 true (on 3 (pos 1)))) (at x 0 ∷ at x 1 ∷ v ∷ clear 1 (at x 3) ∷ clear 1 (at x 4) ∷ clear 1 (at x 5) ∷ a ∷ b ∷ more))) +ℤ bit_of (has_bit n 1)) ∷ clear 1 (at x 4) ∷ clear 1 (at x 5) ∷ a ∷ b ∷ more))) +ℤ bit_of (has_bit n 2)) ∷ clear 1 (at x 5) ∷ a ∷ b ∷ more))) +ℤ bit_of (has_bit n 3)) ∷ a ∷ b ∷ more) e2
-    ∙ ap (λ (v : ℤ). at x 0 ∷ at x 1 ∷ at x 2 ∷ v ∷ wrap (clear 1 (floor_by 14 (dot (weights (row 4 0 true (on 4 (pos 1)))) (at x 0 ∷ at x 1 ∷ at x 2 ∷ v ∷ clear 1 (at x 4) ∷ clear 1 (at x 5) ∷ a ∷ b ∷ more))) +ℤ bit_of (has_bit n 2)) ∷ wrap (clear 1 (floor_by 14 (dot (weights (row 5 0 true (on 5 (pos 1)))) (at x 0 ∷ at x 1 ∷ at x 2 ∷ v ∷ wrap (clear 1 (floor_by 14 (dot (weights (row 4 0 true (on 4 (pos 1)))) (at x 0 ∷ at x 1 ∷ at x 2 ∷ v ∷ clear 1 (at x 4) ∷ clear 1 (at x 5) ∷ a ∷ b ∷ more))) +ℤ bit_of (has_bit n 2)) ∷ clear 1 (at x 5) ∷ a ∷ b ∷ more))) +ℤ bit_of (has_bit n 3)) ∷ a ∷ b ∷ more) e3
-    ∙ ap (λ (v : ℤ). at x 0 ∷ at x 1 ∷ at x 2 ∷ at x 3 ∷ v ∷ wrap (clear 1 (floor_by 14 (dot (weights (row 5 0 true (on 5 (pos 1)))) (at x 0 ∷ at x 1 ∷ at x 2 ∷ at x 3 ∷ v ∷ clear 1 (at x 5) ∷ a ∷ b ∷ more))) +ℤ bit_of (has_bit n 3)) ∷ a ∷ b ∷ more) e4
+    let e2 = bit_put (at x 2) (dot (weights (row 2 0 true (on ((2, pos 1) ∷ [])))) (at x 0 ∷ at x 1 ∷ clear 1 (at x 2) ∷ clear 1 (at x 3) ∷ clear 1 (at x 4) ∷ clear 1 (at x 5) ∷ a ∷ b ∷ more)) (has_bit n 0) (sample_fits q (at x 2) (h 2 (omega arith))) (dot_one2 (at x 0) (at x 1) (clear 1 (at x 2)) (clear 1 (at x 3)) (clear 1 (at x 4)) (clear 1 (at x 5)) a b more) (bit0 (is_even (at x 2)) (is_even (at x 3)) (is_even (at x 4)) (is_even (at x 5))) in
+    let e3 = bit_put (at x 3) (dot (weights (row 3 0 true (on ((3, pos 1) ∷ [])))) (at x 0 ∷ at x 1 ∷ at x 2 ∷ clear 1 (at x 3) ∷ clear 1 (at x 4) ∷ clear 1 (at x 5) ∷ a ∷ b ∷ more)) (has_bit n 1) (sample_fits q (at x 3) (h 3 (omega arith))) (dot_one3 (at x 0) (at x 1) (at x 2) (clear 1 (at x 3)) (clear 1 (at x 4)) (clear 1 (at x 5)) a b more) (bit1 (is_even (at x 2)) (is_even (at x 3)) (is_even (at x 4)) (is_even (at x 5))) in
+    let e4 = bit_put (at x 4) (dot (weights (row 4 0 true (on ((4, pos 1) ∷ [])))) (at x 0 ∷ at x 1 ∷ at x 2 ∷ at x 3 ∷ clear 1 (at x 4) ∷ clear 1 (at x 5) ∷ a ∷ b ∷ more)) (has_bit n 2) (sample_fits q (at x 4) (h 4 (omega arith))) (dot_one4 (at x 0) (at x 1) (at x 2) (at x 3) (clear 1 (at x 4)) (clear 1 (at x 5)) a b more) (bit2 (is_even (at x 2)) (is_even (at x 3)) (is_even (at x 4)) (is_even (at x 5))) in
+    let e5 = bit_put (at x 5) (dot (weights (row 5 0 true (on ((5, pos 1) ∷ [])))) (at x 0 ∷ at x 1 ∷ at x 2 ∷ at x 3 ∷ at x 4 ∷ clear 1 (at x 5) ∷ a ∷ b ∷ more)) (has_bit n 3) (sample_fits q (at x 5) (h 5 (omega arith))) (dot_one5 (at x 0) (at x 1) (at x 2) (at x 3) (at x 4) (clear 1 (at x 5)) a b more) (bit3 (is_even (at x 2)) (is_even (at x 3)) (is_even (at x 4)) (is_even (at x 5))) in
+    ap (λ (v : ℤ). at x 0 ∷ at x 1 ∷ v ∷ wrap (clear 1 (floor_by 14 (dot (weights (row 3 0 true (on ((3, pos 1) ∷ [])))) (at x 0 ∷ at x 1 ∷ v ∷ clear 1 (at x 3) ∷ clear 1 (at x 4) ∷ clear 1 (at x 5) ∷ a ∷ b ∷ more))) +ℤ bit_of (has_bit n 1)) ∷ wrap (clear 1 (floor_by 14 (dot (weights (row 4 0 true (on ((4, pos 1) ∷ [])))) (at x 0 ∷ at x 1 ∷ v ∷ wrap (clear 1 (floor_by 14 (dot (weights (row 3 0 true (on ((3, pos 1) ∷ [])))) (at x 0 ∷ at x 1 ∷ v ∷ clear 1 (at x 3) ∷ clear 1 (at x 4) ∷ clear 1 (at x 5) ∷ a ∷ b ∷ more))) +ℤ bit_of (has_bit n 1)) ∷ clear 1 (at x 4) ∷ clear 1 (at x 5) ∷ a ∷ b ∷ more))) +ℤ bit_of (has_bit n 2)) ∷ wrap (clear 1 (floor_by 14 (dot (weights (row 5 0 true (on ((5, pos 1) ∷ [])))) (at x 0 ∷ at x 1 ∷ v ∷ wrap (clear 1 (floor_by 14 (dot (weights (row 3 0 true (on ((3, pos 1) ∷ [])))) (at x 0 ∷ at x 1 ∷ v ∷ clear 1 (at x 3) ∷ clear 1 (at x 4) ∷ clear 1 (at x 5) ∷ a ∷ b ∷ more))) +ℤ bit_of (has_bit n 1)) ∷ wrap (clear 1 (floor_by 14 (dot (weights (row 4 0 true (on ((4, pos 1) ∷ [])))) (at x 0 ∷ at x 1 ∷ v ∷ wrap (clear 1 (floor_by 14 (dot (weights (row 3 0 true (on ((3, pos 1) ∷ [])))) (at x 0 ∷ at x 1 ∷ v ∷ clear 1 (at x 3) ∷ clear 1 (at x 4) ∷ clear 1 (at x 5) ∷ a ∷ b ∷ more))) +ℤ bit_of (has_bit n 1)) ∷ clear 1 (at x 4) ∷ clear 1 (at x 5) ∷ a ∷ b ∷ more))) +ℤ bit_of (has_bit n 2)) ∷ clear 1 (at x 5) ∷ a ∷ b ∷ more))) +ℤ bit_of (has_bit n 3)) ∷ a ∷ b ∷ more) e2
+    ∙ ap (λ (v : ℤ). at x 0 ∷ at x 1 ∷ at x 2 ∷ v ∷ wrap (clear 1 (floor_by 14 (dot (weights (row 4 0 true (on ((4, pos 1) ∷ [])))) (at x 0 ∷ at x 1 ∷ at x 2 ∷ v ∷ clear 1 (at x 4) ∷ clear 1 (at x 5) ∷ a ∷ b ∷ more))) +ℤ bit_of (has_bit n 2)) ∷ wrap (clear 1 (floor_by 14 (dot (weights (row 5 0 true (on ((5, pos 1) ∷ [])))) (at x 0 ∷ at x 1 ∷ at x 2 ∷ v ∷ wrap (clear 1 (floor_by 14 (dot (weights (row 4 0 true (on ((4, pos 1) ∷ [])))) (at x 0 ∷ at x 1 ∷ at x 2 ∷ v ∷ clear 1 (at x 4) ∷ clear 1 (at x 5) ∷ a ∷ b ∷ more))) +ℤ bit_of (has_bit n 2)) ∷ clear 1 (at x 5) ∷ a ∷ b ∷ more))) +ℤ bit_of (has_bit n 3)) ∷ a ∷ b ∷ more) e3
+    ∙ ap (λ (v : ℤ). at x 0 ∷ at x 1 ∷ at x 2 ∷ at x 3 ∷ v ∷ wrap (clear 1 (floor_by 14 (dot (weights (row 5 0 true (on ((5, pos 1) ∷ [])))) (at x 0 ∷ at x 1 ∷ at x 2 ∷ at x 3 ∷ v ∷ clear 1 (at x 5) ∷ a ∷ b ∷ more))) +ℤ bit_of (has_bit n 3)) ∷ a ∷ b ∷ more) e4
     ∙ ap (λ (v : ℤ). at x 0 ∷ at x 1 ∷ at x 2 ∷ at x 3 ∷ at x 4 ∷ v ∷ a ∷ b ∷ more) e5
 
 -- ---- Side

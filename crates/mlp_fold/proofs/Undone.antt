@@ -1,6 +1,6 @@
 -- The rows of the top substream, undone from the last to the first, make the coded channels of a frame of PCM.
 use Rattle.std.proofs.Common.{◌≡◌, ℕ, zero, suc, ◌-◌, ◌≤◌, List, [], ◌∷◌, ◌++◌, ℤ, pos, negsuc, neg_ℤ, ◌+ℤ◌, ◌-ℤ◌, ◌*ℤ◌, Bool, true, false, cond, w32, arith, refl, sym, ◌∙◌, ap, subst, inl, inr}
-use Rattle.std.specs.Prelude.{Some, None, not, ◌⊎◌}
+use Rattle.std.specs.Prelude.{not, ◌⊎◌}
 use Rattle.mlp_syntax.specs.declared.params.MatrixRow.{MatrixRow}
 use Rattle.std.proofs.lemmas.Int.{ints, int_wrap_fits}
 use Rattle.std.proofs.lemmas.Bool.Decides.{eqb_tells}
@@ -12,7 +12,7 @@ use Rattle.mlp_matrix.specs.Matrix.{weights, is_even}
 use Rattle.mlp_fold.specs.declared.profile.Mix.{Mix}
 use Rattle.mlp_fold.specs.declared.profile.Mix.TheVariants.{Split, Fold, Bypass, Side}
 use Rattle.mlp_fold.specs.Profile.{AreMixed}
-use Rattle.mlp_fold.specs.Mix.{at, Is26, IsSample, AreSamples, channels_of, shown, lowered, front6, front8, coded_fold6, coded_fold8, coded_bypass, coded_side, bypass_of}
+use Rattle.mlp_fold.specs.Mix.{at, Is26, IsSample, AreSamples, channels_of, shown, lowered, front6, front8, coded_fold6, coded_fold8, coded_bypass, coded_side, bypass_of, presented_of}
 use Rattle.mlp_fold.specs.Rows.{row, left, right, on, side_row, fold_rows, bypass_rows, steps_by, bypass_steps}
 use Rattle.mlp_fold.specs.Undone.{row_undone, undone, undone_bits, UndoesToCoded, UndoesToBits}
 use Rattle.mlp_fold.proofs.Mixes.{dot_one2, dot_one3, dot_one4, dot_one5}
@@ -75,10 +75,10 @@ bare_left8 z1 c2 c3 c4 c5 a b more = omega (arith, ints)
 bare_right8 : (z0 c2 c3 c4 c5 a b : ℤ) (more : List ℤ) → dot (weights (row 1 14 false (right (negsuc 5792)))) (z0 ∷ pos 0 ∷ c2 ∷ c3 ∷ c4 ∷ c5 ∷ a ∷ b ∷ more) ≡ negsuc 11584 *ℤ c2 +ℤ negsuc 5792 *ℤ c5
 bare_right8 z0 c2 c3 c4 c5 a b more = omega (arith, ints)
 
-bare_back4 : (z0 z1 c2 c3 c5 a b : ℤ) (more : List ℤ) → dot (weights (row 4 14 false (None ∷ None ∷ None ∷ None ∷ Some (pos 16384) ∷ None ∷ Some (negsuc 16383) ∷ None ∷ []))) (z0 ∷ z1 ∷ c2 ∷ c3 ∷ pos 0 ∷ c5 ∷ a ∷ b ∷ more) ≡ neg_ℤ a *ℤ pos 16384
+bare_back4 : (z0 z1 c2 c3 c5 a b : ℤ) (more : List ℤ) → dot (weights (row 4 14 false (on ((4, pos 16384) ∷ (6, negsuc 16383) ∷ [])))) (z0 ∷ z1 ∷ c2 ∷ c3 ∷ pos 0 ∷ c5 ∷ a ∷ b ∷ more) ≡ neg_ℤ a *ℤ pos 16384
 bare_back4 z0 z1 c2 c3 c5 a b more = omega (arith, ints)
 
-bare_back5 : (z0 z1 c2 c3 c4 a b : ℤ) (more : List ℤ) → dot (weights (row 5 14 false (None ∷ None ∷ None ∷ None ∷ None ∷ Some (pos 16384) ∷ None ∷ Some (negsuc 16383) ∷ []))) (z0 ∷ z1 ∷ c2 ∷ c3 ∷ c4 ∷ pos 0 ∷ a ∷ b ∷ more) ≡ neg_ℤ b *ℤ pos 16384
+bare_back5 : (z0 z1 c2 c3 c4 a b : ℤ) (more : List ℤ) → dot (weights (row 5 14 false (on ((5, pos 16384) ∷ (7, negsuc 16383) ∷ [])))) (z0 ∷ z1 ∷ c2 ∷ c3 ∷ c4 ∷ pos 0 ∷ a ∷ b ∷ more) ≡ neg_ℤ b *ℤ pos 16384
 bare_back5 z0 z1 c2 c3 c4 a b more = omega (arith, ints)
 
 bare_side : (x0 a b : ℤ) (more : List ℤ) → dot (weights side_row) (x0 ∷ pos 0 ∷ a ∷ b ∷ more) ≡ x0 *ℤ pos 16384
@@ -104,19 +104,19 @@ fold6_undone q x more l h =
     ∙ ap (λ (v : ℤ). v ∷ z1 ∷ at x 2 ∷ at x 3 ∷ at x 4 ∷ at x 5 ∷ pos 0 ∷ pos 0 ∷ more) e0
 
 abbrev back4 : List MatrixRow
-back4 = row 4 14 false (None ∷ None ∷ None ∷ None ∷ Some (pos 16384) ∷ None ∷ Some (negsuc 16383) ∷ None ∷ []) ∷ row 5 14 false (None ∷ None ∷ None ∷ None ∷ None ∷ Some (pos 16384) ∷ None ∷ Some (negsuc 16383) ∷ []) ∷ []
+back4 = row 4 14 false (on ((4, pos 16384) ∷ (6, negsuc 16383) ∷ [])) ∷ row 5 14 false (on ((5, pos 16384) ∷ (7, negsuc 16383) ∷ [])) ∷ []
 
 -- the sums of surround and back come first
 backs_undone : (q : ℕ) (x more : List ℤ) → AreSamples q 8 x → undone back4 (steps_by 2 q) (shown 8 x ++ more) ≡ at x 0 ∷ at x 1 ∷ at x 2 ∷ at x 3 ∷ (at x 4 +ℤ at x 6) ∷ (at x 5 +ℤ at x 7) ∷ at x 6 ∷ at x 7 ∷ more
 backs_undone q x more h =
-    let e5 = undone_plus q (at x 5) (at x 7) (dot (weights (row 5 14 false (None ∷ None ∷ None ∷ None ∷ None ∷ Some (pos 16384) ∷ None ∷ Some (negsuc 16383) ∷ []))) (at x 0 ∷ at x 1 ∷ at x 2 ∷ at x 3 ∷ at x 4 ∷ pos 0 ∷ at x 6 ∷ at x 7 ∷ more)) (h 5 (omega arith)) (h 7 (omega arith))
+    let e5 = undone_plus q (at x 5) (at x 7) (dot (weights (row 5 14 false (on ((5, pos 16384) ∷ (7, negsuc 16383) ∷ [])))) (at x 0 ∷ at x 1 ∷ at x 2 ∷ at x 3 ∷ at x 4 ∷ pos 0 ∷ at x 6 ∷ at x 7 ∷ more)) (h 5 (omega arith)) (h 7 (omega arith))
     (bare_back5 (at x 0) (at x 1) (at x 2) (at x 3) (at x 4) (at x 6) (at x 7) more) in
     let z5 : ℤ = at x 5 +ℤ at x 7 in
-    let e4 = undone_plus q (at x 4) (at x 6) (dot (weights (row 4 14 false (None ∷ None ∷ None ∷ None ∷ Some (pos 16384) ∷ None ∷ Some (negsuc 16383) ∷ None ∷ []))) (at x 0 ∷ at x 1 ∷ at x 2 ∷ at x 3 ∷ pos 0 ∷ z5 ∷ at x 6 ∷ at x 7 ∷ more)) (h 4 (omega arith)) (h 6 (omega arith))
+    let e4 = undone_plus q (at x 4) (at x 6) (dot (weights (row 4 14 false (on ((4, pos 16384) ∷ (6, negsuc 16383) ∷ [])))) (at x 0 ∷ at x 1 ∷ at x 2 ∷ at x 3 ∷ pos 0 ∷ z5 ∷ at x 6 ∷ at x 7 ∷ more)) (h 4 (omega arith)) (h 6 (omega arith))
     (bare_back4 (at x 0) (at x 1) (at x 2) (at x 3) z5 (at x 6) (at x 7) more) in
-    let last : undone (row 5 14 false (None ∷ None ∷ None ∷ None ∷ None ∷ Some (pos 16384) ∷ None ∷ Some (negsuc 16383) ∷ []) ∷ []) (steps_by 2 q) (shown 8 x ++ more) ≡ at x 0 ∷ at x 1 ∷ at x 2 ∷ at x 3 ∷ at x 4 ∷ z5 ∷ at x 6 ∷ at x 7 ∷ more =
+    let last : undone (row 5 14 false (on ((5, pos 16384) ∷ (7, negsuc 16383) ∷ [])) ∷ []) (steps_by 2 q) (shown 8 x ++ more) ≡ at x 0 ∷ at x 1 ∷ at x 2 ∷ at x 3 ∷ at x 4 ∷ z5 ∷ at x 6 ∷ at x 7 ∷ more =
     ap (λ (v : ℤ). at x 0 ∷ at x 1 ∷ at x 2 ∷ at x 3 ∷ at x 4 ∷ v ∷ at x 6 ∷ at x 7 ∷ more) e5 in
-    ap (row_undone (steps_by 2 q) (row 4 14 false (None ∷ None ∷ None ∷ None ∷ Some (pos 16384) ∷ None ∷ Some (negsuc 16383) ∷ None ∷ []))) last
+    ap (row_undone (steps_by 2 q) (row 4 14 false (on ((4, pos 16384) ∷ (6, negsuc 16383) ∷ [])))) last
     ∙ ap (λ (v : ℤ). at x 0 ∷ at x 1 ∷ at x 2 ∷ at x 3 ∷ v ∷ z5 ∷ at x 6 ∷ at x 7 ∷ more) e4
 
 -- .. and so the fronts are lowered by these sums
@@ -146,17 +146,17 @@ fold8_undone q x more l h =
 
 pub bypass_undone : (q : ℕ) (x more : List ℤ) → AreSamples q 6 x → undone (bypass_rows 1) (bypass_steps 1) (shown 6 x ++ more) ≡ coded_bypass x ++ more
 bypass_undone q x more h =
-    let e5 = undone_alone q (at x 5) (dot (weights (row 5 0 true (on 5 (pos 1)))) (at x 0 ∷ at x 1 ∷ at x 2 ∷ at x 3 ∷ at x 4 ∷ pos 0 ∷ pos 0 ∷ pos 0 ∷ more)) (h 5 (omega arith)) (dot_one5 (at x 0) (at x 1) (at x 2) (at x 3) (at x 4) (pos 0) (pos 0) (pos 0) more) in
+    let e5 = undone_alone q (at x 5) (dot (weights (row 5 0 true (on ((5, pos 1) ∷ [])))) (at x 0 ∷ at x 1 ∷ at x 2 ∷ at x 3 ∷ at x 4 ∷ pos 0 ∷ pos 0 ∷ pos 0 ∷ more)) (h 5 (omega arith)) (dot_one5 (at x 0) (at x 1) (at x 2) (at x 3) (at x 4) (pos 0) (pos 0) (pos 0) more) in
     let z5 : ℤ = clear 1 (at x 5) in
-    let e4 = undone_alone q (at x 4) (dot (weights (row 4 0 true (on 4 (pos 1)))) (at x 0 ∷ at x 1 ∷ at x 2 ∷ at x 3 ∷ pos 0 ∷ z5 ∷ pos 0 ∷ pos 0 ∷ more)) (h 4 (omega arith)) (dot_one4 (at x 0) (at x 1) (at x 2) (at x 3) (pos 0) z5 (pos 0) (pos 0) more) in
+    let e4 = undone_alone q (at x 4) (dot (weights (row 4 0 true (on ((4, pos 1) ∷ [])))) (at x 0 ∷ at x 1 ∷ at x 2 ∷ at x 3 ∷ pos 0 ∷ z5 ∷ pos 0 ∷ pos 0 ∷ more)) (h 4 (omega arith)) (dot_one4 (at x 0) (at x 1) (at x 2) (at x 3) (pos 0) z5 (pos 0) (pos 0) more) in
     let z4 : ℤ = clear 1 (at x 4) in
-    let e3 = undone_alone q (at x 3) (dot (weights (row 3 0 true (on 3 (pos 1)))) (at x 0 ∷ at x 1 ∷ at x 2 ∷ pos 0 ∷ z4 ∷ z5 ∷ pos 0 ∷ pos 0 ∷ more)) (h 3 (omega arith)) (dot_one3 (at x 0) (at x 1) (at x 2) (pos 0) z4 z5 (pos 0) (pos 0) more) in
+    let e3 = undone_alone q (at x 3) (dot (weights (row 3 0 true (on ((3, pos 1) ∷ [])))) (at x 0 ∷ at x 1 ∷ at x 2 ∷ pos 0 ∷ z4 ∷ z5 ∷ pos 0 ∷ pos 0 ∷ more)) (h 3 (omega arith)) (dot_one3 (at x 0) (at x 1) (at x 2) (pos 0) z4 z5 (pos 0) (pos 0) more) in
     let z3 : ℤ = clear 1 (at x 3) in
-    let e2 = undone_alone q (at x 2) (dot (weights (row 2 0 true (on 2 (pos 1)))) (at x 0 ∷ at x 1 ∷ pos 0 ∷ z3 ∷ z4 ∷ z5 ∷ pos 0 ∷ pos 0 ∷ more)) (h 2 (omega arith)) (dot_one2 (at x 0) (at x 1) (pos 0) z3 z4 z5 (pos 0) (pos 0) more) in
-    let r2 : MatrixRow = row 2 0 true (on 2 (pos 1)) in
-    let r3 : MatrixRow = row 3 0 true (on 3 (pos 1)) in
-    let r4 : MatrixRow = row 4 0 true (on 4 (pos 1)) in
-    let r5 : MatrixRow = row 5 0 true (on 5 (pos 1)) in
+    let e2 = undone_alone q (at x 2) (dot (weights (row 2 0 true (on ((2, pos 1) ∷ [])))) (at x 0 ∷ at x 1 ∷ pos 0 ∷ z3 ∷ z4 ∷ z5 ∷ pos 0 ∷ pos 0 ∷ more)) (h 2 (omega arith)) (dot_one2 (at x 0) (at x 1) (pos 0) z3 z4 z5 (pos 0) (pos 0) more) in
+    let r2 : MatrixRow = row 2 0 true (on ((2, pos 1) ∷ [])) in
+    let r3 : MatrixRow = row 3 0 true (on ((3, pos 1) ∷ [])) in
+    let r4 : MatrixRow = row 4 0 true (on ((4, pos 1) ∷ [])) in
+    let r5 : MatrixRow = row 5 0 true (on ((5, pos 1) ∷ [])) in
     let last : undone (r5 ∷ []) (bypass_steps 1) (shown 6 x ++ more) ≡ at x 0 ∷ at x 1 ∷ at x 2 ∷ at x 3 ∷ at x 4 ∷ z5 ∷ pos 0 ∷ pos 0 ∷ more =
     ap (λ (v : ℤ). at x 0 ∷ at x 1 ∷ at x 2 ∷ at x 3 ∷ at x 4 ∷ v ∷ pos 0 ∷ pos 0 ∷ more) e5 in
     let third : undone (r4 ∷ r5 ∷ []) (bypass_steps 1) (shown 6 x ++ more) ≡ at x 0 ∷ at x 1 ∷ at x 2 ∷ at x 3 ∷ z4 ∷ z5 ∷ pos 0 ∷ pos 0 ∷ more =
@@ -254,3 +254,32 @@ to_bits Bypass depth channels k x more m e h =
     let P : ℕ → Type 0 = λ n. channels_of k ≡ n → UndoesToBits Bypass (24 - depth) n k x more in
     subst P (sym m.shape.0) (λ i. bypass_bits_at (24 - depth) k x more i) e
 to_bits Side depth channels k x more m e h = refl
+
+-- ---- the top presentation
+
+fold_top : (q channels k : ℕ) (x : List ℤ) → (channels ≡ 6) ⊎ (channels ≡ 8) → channels_of k ≡ channels → presented_of Fold q channels k x ≡ shown channels x
+fold_top q channels k x shape e =
+    let P : ℕ → Type 0 = λ n. channels_of k ≡ n → presented_of Fold q n k x ≡ shown n x in
+    elim shape [
+      | inl f ↦ subst P (sym f) (λ i. of_six k i) e
+      | inr f ↦ subst P (sym f) (λ i. of_eight k i) e
+    ]
+  where
+    of_six : (k : ℕ) → channels_of k ≡ 6 → presented_of Fold q 6 k x ≡ shown 6 x
+    of_six zero i = absurd (omega (arith, i))
+    of_six (suc k) i = refl
+
+    of_eight : (k : ℕ) → channels_of k ≡ 8 → presented_of Fold q 8 k x ≡ shown 8 x
+    of_eight zero i = absurd (omega (arith, i))
+    of_eight (suc zero) i = absurd (omega (arith, i))
+    of_eight (suc (suc k)) i = refl
+
+pub top_shown : (mix : Mix) (depth channels k : ℕ) (x : List ℤ) → AreMixed mix depth channels → channels_of k ≡ channels → presented_of mix (24 - depth) channels k x ≡ shown channels x
+top_shown Split depth channels k x m e = ap (λ n. shown n x) e
+top_shown Fold depth channels k x m e =
+    elim (eqb_tells channels 6) [
+      | inl f ↦ fold_top (24 - depth) channels k x (inl f.1) e
+      | inr f ↦ fold_top (24 - depth) channels k x (inr (m.shape.1 f.1)) e
+    ]
+top_shown Bypass depth channels k x m e = ap (λ n. shown n x) e
+top_shown Side depth channels k x m e = ap (λ n. shown n x) e

@@ -7,31 +7,36 @@ use Rattle.mlp_fold.specs.declared.profile.Mix.TheVariants.{Split, Fold, Bypass,
 abbrev pub row : ℕ → ℕ → Bool → List (Option ℤ) → MatrixRow
 row dest frac bypass coeffs = record { dest = dest; frac = frac; bypass = bypass; coeffs = record { items = coeffs }; noise_shift = 0 }
 
--- eight sources, and a coefficient on one of them
-abbrev pub on : ℕ → ℤ → List (Option ℤ)
-on channel c = slice_set (None ∷ None ∷ None ∷ None ∷ None ∷ None ∷ None ∷ None ∷ []) channel (Some c)
+-- coefficients on some sources, by number
+abbrev pub placed : List (Option ℤ) → List (ℕ × ℤ) → List (Option ℤ)
+placed coeffs [] = coeffs
+placed coeffs ((source, c) ∷ more) = placed (slice_set coeffs source (Some c)) more
+
+-- .. of eight
+abbrev pub on : List (ℕ × ℤ) → List (Option ℤ)
+on sources = placed (None ∷ None ∷ None ∷ None ∷ None ∷ None ∷ None ∷ None ∷ []) sources
 
 -- a front channel with centre and a surround channel
 abbrev pub left : ℤ → List (Option ℤ)
-left surround = Some (pos 16384) ∷ None ∷ Some (negsuc 11584) ∷ None ∷ Some surround ∷ None ∷ None ∷ None ∷ []
+left surround = on ((0, pos 16384) ∷ (2, negsuc 11584) ∷ (4, surround) ∷ [])
 
 abbrev pub right : ℤ → List (Option ℤ)
-right surround = None ∷ Some (pos 16384) ∷ Some (negsuc 11584) ∷ None ∷ None ∷ Some surround ∷ None ∷ None ∷ []
+right surround = on ((1, pos 16384) ∷ (2, negsuc 11584) ∷ (5, surround) ∷ [])
 
 abbrev pub fold_rows : ℕ → ℕ → List MatrixRow
 fold_rows zero channels = row 0 14 false (Some (pos 6786) ∷ None ∷ None ∷ None ∷ []) ∷ row 1 14 false (None ∷ Some (pos 6786) ∷ None ∷ None ∷ []) ∷ []
 fold_rows (suc zero) channels =
     if channels == 6
     then row 0 14 false (left (negsuc 11584)) ∷ row 1 14 false (right (negsuc 11584)) ∷ []
-    else row 0 14 false (left (negsuc 5792)) ∷ row 1 14 false (right (negsuc 5792)) ∷ row 4 14 false (on 4 (pos 8192)) ∷ row 5 14 false (on 5 (pos 8192)) ∷ []
+    else row 0 14 false (left (negsuc 5792)) ∷ row 1 14 false (right (negsuc 5792)) ∷ row 4 14 false (on ((4, pos 8192) ∷ [])) ∷ row 5 14 false (on ((5, pos 8192) ∷ [])) ∷ []
 fold_rows (suc (suc k)) channels =
     row 0 14 false (left (negsuc 5792)) ∷ row 1 14 false (right (negsuc 5792))
-    ∷ row 4 14 false (None ∷ None ∷ None ∷ None ∷ Some (pos 16384) ∷ None ∷ Some (negsuc 16383) ∷ None ∷ [])
-    ∷ row 5 14 false (None ∷ None ∷ None ∷ None ∷ None ∷ Some (pos 16384) ∷ None ∷ Some (negsuc 16383) ∷ []) ∷ []
+    ∷ row 4 14 false (on ((4, pos 16384) ∷ (6, negsuc 16383) ∷ []))
+    ∷ row 5 14 false (on ((5, pos 16384) ∷ (7, negsuc 16383) ∷ [])) ∷ []
 
 abbrev pub bypass_rows : ℕ → List MatrixRow
 bypass_rows zero = []
-bypass_rows (suc k) = row 2 0 true (on 2 (pos 1)) ∷ row 3 0 true (on 3 (pos 1)) ∷ row 4 0 true (on 4 (pos 1)) ∷ row 5 0 true (on 5 (pos 1)) ∷ []
+bypass_rows (suc k) = row 2 0 true (on ((2, pos 1) ∷ [])) ∷ row 3 0 true (on ((3, pos 1) ∷ [])) ∷ row 4 0 true (on ((4, pos 1) ∷ [])) ∷ row 5 0 true (on ((5, pos 1) ∷ [])) ∷ []
 
 abbrev pub side_row : MatrixRow
 side_row = row 1 0 false (Some (pos 1) ∷ Some (pos 1) ∷ None ∷ None ∷ [])

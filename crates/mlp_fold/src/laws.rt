@@ -4,7 +4,7 @@ ghost use Rattle.std.specs.Prelude.{◌≡◌, ◌≤◌, ◌-◌, ◌∷◌, �
 ghost use Rattle.mlp_matrix.specs.Matrix.{applied, AreRows};
 ghost use Rattle.mlp_fold.specs.declared.profile.Mix.{Mix};
 ghost use Rattle.mlp_fold.specs.Profile.{AreMixed};
-ghost use Rattle.mlp_fold.specs.Mix.{at, Is24, AreSamples, channels_of, coded_of, bypass_of, presented_of};
+ghost use Rattle.mlp_fold.specs.Mix.{at, Is24, AreSamples, channels_of, shown, coded_of, bypass_of, presented_of};
 ghost use Rattle.mlp_fold.specs.Rows.{rows_of, steps_of};
 ghost use Rattle.mlp_fold.specs.Undone.{UndoesToCoded, UndoesToBits};
 
@@ -23,6 +23,11 @@ pub fn law_mixes()
 pub fn law_undone()
     ensures values { (mix : Mix) (depth channels k : ℕ) (frame more : List ℤ) → AreMixed mix depth channels → channels_of k ≡ channels → AreSamples (24 - depth) channels frame → UndoesToCoded mix (24 - depth) channels k frame more }
     ensures bits { (mix : Mix) (depth channels k : ℕ) (frame more : List ℤ) → AreMixed mix depth channels → channels_of k ≡ channels → AreSamples (24 - depth) channels frame → UndoesToBits mix (24 - depth) channels k frame more }
+{}
+
+/// The top presentation is the frame itself.
+pub fn law_top()
+    ensures { (mix : Mix) (depth channels k : ℕ) (frame : List ℤ) → AreMixed mix depth channels → channels_of k ≡ channels → presented_of mix (24 - depth) channels k frame ≡ shown channels frame }
 {}
 
 /// Each value that a presentation shows has 24 signed bits, in Fold too.

@@ -1,6 +1,6 @@
 //! The rows and steps of the mixes.
 
-ghost use Rattle.std.specs.Prelude.{◌≡◌, ◌≤◌, ◌<◌, ◌-◌, [], ◌∷◌, false, length};
+ghost use Rattle.std.specs.Prelude.{◌≡◌, ◌≤◌, ◌<◌, ◌-◌, [], ◌∷◌, false, length, All};
 ghost use Rattle.mlp_fold.specs.Rows.{row, on, left, right, rows_of, fold_rows, bypass_rows, side_row, steps_of, steps_by, bypass_steps};
 
 use crate::profile::Mix;
@@ -25,14 +25,17 @@ fn row(dest: u8, frac: u8, bypass: bool, fields: &[Option<i32>]) -> MatrixRow
     }
 }
 
-/// A row of eight sources with one coefficient, on its own destination.
-fn own_row(channel: u8, frac: u8, bypass: bool, coefficient: i32) -> MatrixRow
-    requires { channel < 8 }
-    ensures { result ≡ row channel frac bypass (on channel coefficient) }
+/// Eight sources, and these coefficients on some, by number.
+fn on(sources: &[(usize, i32)]) -> [Option<i32>; 8]
+    requires { All (λ source. source.0 < 8) sources.now }
+    ensures { result ≡ on sources.now }
 {
-    let mut fields = [None; 8];
-    fields[usize::from(channel)] = Some(coefficient);
-    row(channel, frac, bypass, &fields)
+    let mut coeffs = [None; 8];
+    for i in 0..sources.len() {
+        let (source, coeff) = sources[i];
+        coeffs[source] = Some(coeff);
+    }
+    coeffs
 }
 
 /// The rows of the two front channels of Fold, where the surround channels have this coefficient.
@@ -40,37 +43,10 @@ fn front_rows(surround: i32, rows: &mut ArrayVec<MatrixRow, 8>)
     requires { rows.old.items ≡ [] }
     ensures { rows.new.items ≡ row 0 14 false (left surround) ∷ row 1 14 false (right surround) ∷ [] }
 {
-    let centre = Some(-11585);
-    rows.push(row(
-        0,
-        14,
-        false,
-        &[
-            Some(16384),
-            None,
-            centre,
-            None,
-            Some(surround),
-            None,
-            None,
-            None,
-        ],
-    ));
-    rows.push(row(
-        1,
-        14,
-        false,
-        &[
-            None,
-            Some(16384),
-            centre,
-            None,
-            None,
-            Some(surround),
-            None,
-            None,
-        ],
-    ));
+    let left = on(&[(0, 16384), (2, -11585), (4, surround)]);
+    let right = on(&[(1, 16384), (2, -11585), (5, surround)]);
+    rows.push(row(0, 14, false, &left));
+    rows.push(row(1, 14, false, &right));
 }
 
 /// The rows of Fold.
@@ -89,40 +65,12 @@ fn fold_rows(substream: u8, channels: u8) -> ArrayVec<MatrixRow, 8>
     }
     front_rows(-5793, &mut rows);
     if substream == 1 {
-        rows.push(own_row(4, 14, false, 8192));
-        rows.push(own_row(5, 14, false, 8192));
+        rows.push(row(4, 14, false, &on(&[(4, 8192)])));
+        rows.push(row(5, 14, false, &on(&[(5, 8192)])));
         return rows;
     }
-    rows.push(row(
-        4,
-        14,
-        false,
-        &[
-            None,
-            None,
-            None,
-            None,
-            Some(16384),
-            None,
-            Some(-16384),
-            None,
-        ],
-    ));
-    rows.push(row(
-        5,
-        14,
-        false,
-        &[
-            None,
-            None,
-            None,
-            None,
-            None,
-            Some(16384),
-            None,
-            Some(-16384),
-        ],
-    ));
+    rows.push(row(4, 14, false, &on(&[(4, 16384), (6, -16384)])));
+    rows.push(row(5, 14, false, &on(&[(5, 16384), (7, -16384)])));
     rows
 }
 
@@ -134,10 +82,10 @@ fn bypass_rows(substream: u8) -> ArrayVec<MatrixRow, 8>
     if substream == 0 {
         return rows;
     }
-    rows.push(own_row(2, 0, true, 1));
-    rows.push(own_row(3, 0, true, 1));
-    rows.push(own_row(4, 0, true, 1));
-    rows.push(own_row(5, 0, true, 1));
+    rows.push(row(2, 0, true, &on(&[(2, 1)])));
+    rows.push(row(3, 0, true, &on(&[(3, 1)])));
+    rows.push(row(4, 0, true, &on(&[(4, 1)])));
+    rows.push(row(5, 0, true, &on(&[(5, 1)])));
     rows
 }
 
