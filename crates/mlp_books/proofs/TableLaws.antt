@@ -1,11 +1,14 @@
 -- What stands in the tables.
 use Rattle.std.proofs.Common.{◌≡◌, ℕ, ◌<◌, ◌≤◌, ◌^◌, Bool, List, length, get_or, map, refl, ap, ◌∙◌, arith}
+use Rattle.std.specs.Prelude.{◌↔◌}
 use Rattle.std.specs.List.{range_with_len}
 use Rattle.std.proofs.lemmas.List.FromFn.{get_or-map-range_with_len}
 use Rattle.mlp_bits.specs.Bits.{bits, number}
 use Rattle.mlp_bits.proofs.Fields.{number-below}
-use Rattle.mlp_books.specs.Books.{book1, book2, book3, code_of, entry_of, begins, find_symbol, Passes}
-use Rattle.mlp_books.specs.declared.tables.TheConstants.{PATTERNS1, PATTERNS2, PATTERNS3, WIDTHS1, WIDTHS2, WIDTHS3, ENTRIES1, ENTRIES2, ENTRIES3}
+use Rattle.mlp_layout.specs.Layout.{made}
+use Rattle.mlp_books.specs.BookFacts.{counted1, counted2, counted3}
+use Rattle.mlp_books.specs.Books.{book1, book2, book3, code_of, entry_of, entry_in, begins, find_symbol, symbol_of, symbol_in, Passes}
+use Rattle.mlp_books.specs.declared.tables.TheConstants.{PATTERNS1, PATTERNS2, PATTERNS3, WIDTHS0, WIDTHS1, WIDTHS2, WIDTHS3, ENTRIES0, ENTRIES1, ENTRIES2, ENTRIES3}
 use Rattle.mlp_books.proofs.BookLaws.{book_is}
 
 at_place : (xs : List ℕ) (f : ℕ → ℕ) (n : ℕ) → xs ≡ map f (range_with_len 0 n) → (i : ℕ) → i < n → get_or xs i 0 ≡ f i
@@ -53,3 +56,49 @@ code_small book s = number-below (code_of book s)
 
 pub code_short : (book : List (List Bool)) → Passes book → (s : ℕ) → s < length book → length (code_of book s) ≤ 9
 code_short book p = (book_is p).longest
+
+-- the widths by number of the book
+pub widths0 : (s : ℕ) → (symbol_in 0).Fits s → get_or WIDTHS0 s 0 ≡ length ((symbol_in 0).spelling s)
+unfolding symbol_in made
+widths0 s h = rw h refl
+
+pub widths1 : (s : ℕ) → (symbol_in 1).Fits s → get_or WIDTHS1 s 0 ≡ length ((symbol_in 1).spelling s)
+unfolding symbol_in symbol_of
+widths1 s h = width1 s (omega (arith, counted1, h))
+
+pub widths2 : (s : ℕ) → (symbol_in 2).Fits s → get_or WIDTHS2 s 0 ≡ length ((symbol_in 2).spelling s)
+unfolding symbol_in symbol_of
+widths2 s h = width2 s (omega (arith, counted2, h))
+
+pub widths3 : (s : ℕ) → (symbol_in 3).Fits s → get_or WIDTHS3 s 0 ≡ length ((symbol_in 3).spelling s)
+unfolding symbol_in symbol_of
+widths3 s h = width3 s (omega (arith, counted3, h))
+
+pub fits0 : (s : ℕ) → (symbol_in 0).Fits s ↔ (s < 1)
+unfolding symbol_in made
+fits0 s = (λ h. omega (arith, h), λ h. omega (arith, h))
+
+pub fits1 : (s : ℕ) → (symbol_in 1).Fits s ↔ (s < 18)
+unfolding symbol_in symbol_of
+fits1 s = (λ h. omega (arith, counted1, h), λ h. omega (arith, counted1, h))
+
+pub fits2 : (s : ℕ) → (symbol_in 2).Fits s ↔ (s < 16)
+unfolding symbol_in symbol_of
+fits2 s = (λ h. omega (arith, counted2, h), λ h. omega (arith, counted2, h))
+
+pub fits3 : (s : ℕ) → (symbol_in 3).Fits s ↔ (s < 15)
+unfolding symbol_in symbol_of
+fits3 s = (λ h. omega (arith, counted3, h), λ h. omega (arith, counted3, h))
+
+-- the entries by number of the book
+pub entries0 : (n : ℕ) → n < 512 → get_or ENTRIES0 n 0 ≡ entry_in 0 n
+entries0 = at_place ENTRIES0 (λ n. 0) 512 refl
+
+pub entries1 : (n : ℕ) → n < 512 → get_or ENTRIES1 n 0 ≡ entry_in 1 n
+entries1 = entry1
+
+pub entries2 : (n : ℕ) → n < 512 → get_or ENTRIES2 n 0 ≡ entry_in 2 n
+entries2 = entry2
+
+pub entries3 : (n : ℕ) → n < 512 → get_or ENTRIES3 n 0 ≡ entry_in 3 n
+entries3 = entry3

@@ -110,6 +110,13 @@ entry book (Some s) = 16 * s + length (code_of book s)
 abbrev pub entry_of : List (List Bool) → List Bool → ℕ
 entry_of book text = entry book (find_symbol book 0 text)
 
+-- .. in the book with this number; book 0 has none
+abbrev pub entry_in : ℕ → ℕ → ℕ
+entry_in zero nine = 0
+entry_in (suc zero) nine = entry_of book1 (bits 9 nine)
+entry_in (suc (suc zero)) nine = entry_of book2 (bits 9 nine)
+entry_in (suc (suc (suc book))) nine = entry_of book3 (bits 9 nine)
+
 -- ---- the laws of a book as tests
 
 unfoldable pub all_below : ℕ → (ℕ → Bool) → Bool

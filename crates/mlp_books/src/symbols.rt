@@ -1,13 +1,13 @@
 //! Reading and writing symbols.
-ghost use Rattle.std.specs.Prelude.{◌≡◌, ◌+◌, ◌<◌, ◌≤◌, ◌++◌, ◌↔◌, length, Ok, IsErr, IfOk, OnOk, OnErr};
+ghost use Rattle.std.specs.Prelude.{◌≡◌, ℕ, ◌+◌, ◌<◌, ◌≤◌, ◌^◌, ◌++◌, ◌↔◌, length, slice_index_or, Ok, IsErr, IfOk, OnOk, OnErr};
 ghost use Rattle.mlp_bits.specs.Cursor.{Cursor};
 ghost use Rattle.mlp_layout.specs.Reading.{Gives};
 ghost use Rattle.mlp_layout.specs.Layout.{made, number_of};
 ghost use Rattle.mlp_layout.specs.Writing.{Writes};
-ghost use Rattle.mlp_books.specs.Books.{code_of, symbol_of, symbol_in, GivesSymbol};
+ghost use Rattle.mlp_books.specs.Books.{code_of, symbol_of, symbol_in, entry_in, GivesSymbol};
 
 use crate::codebook::Codebook;
-use crate::tables::{Book1, Book2, Book3};
+use crate::tables::{Book1, Book2, Book3, ENTRIES0, ENTRIES1, ENTRIES2, ENTRIES3, WIDTHS0, WIDTHS1, WIDTHS2, WIDTHS3};
 use mlp_bits::{BitReader, BitWriter, Full};
 use mlp_layout::{broken, put_all, put_number};
 use mlp_syntax::{Broken, Field};
@@ -120,4 +120,37 @@ pub fn length<B: Codebook>(symbol: u32) -> u32
     ensures { result ≡ length (code_of B.codes symbol) }
 {
     B::width(symbol)
+}
+
+/// How many bits the codes of the book with this number have, by symbol. The one symbol of book 0 has none.
+#[tactic(auto, unfolding(mlp_layout::specs::Layout::made, crate::specs::Books::symbol_in, crate::specs::Books::symbol_of))]
+#[inline]
+pub fn lengths_in(book: u8) -> &'static [u8]
+    requires { book ≤ 3 }
+    ensures count { 1 ≤ length result.now }
+    ensures each { (s : ℕ) → (symbol_in book).Fits s → slice_index_or result.now s 0 ≡ length ((symbol_in book).spelling s) }
+    ensures fits { (s : ℕ) → (symbol_in book).Fits s ↔ (s < length result.now) }
+{
+    match book {
+        0 => &WIDTHS0,
+        1 => &WIDTHS1,
+        2 => &WIDTHS2,
+        _ => &WIDTHS3,
+    }
+}
+
+/// What each number of nine bits says of the book with this number: 16 times the symbol whose code they begin with, plus
+/// the code's width; 0 where they begin with none, and in book 0.
+#[inline]
+pub fn entries_in(book: u8) -> &'static [u16]
+    requires { book ≤ 3 }
+    ensures count { length result.now ≡ 2 ^ 9 }
+    ensures each { (nine : ℕ) → nine < 2 ^ 9 → slice_index_or result.now nine 0 ≡ entry_in book nine }
+{
+    match book {
+        0 => &ENTRIES0,
+        1 => &ENTRIES1,
+        2 => &ENTRIES2,
+        _ => &ENTRIES3,
+    }
 }

@@ -6,15 +6,21 @@ ghost use Rattle.mlp_books.specs.BookFacts.{counted1, counted2, counted3, passes
 
 use crate::codebook::Codebook;
 
+/// The width of the symbol without a book.
+pub(crate) const WIDTHS0: [u8; 1] = [0];
+
+/// No entries.
+pub(crate) const ENTRIES0: [u16; 512] = [0; 512];
+
 /// The codes of book 1 as numbers, by symbol.
 const PATTERNS1: [u8; 18] = [1, 1, 1, 1, 1, 1, 1, 4, 5, 6, 7, 3, 5, 9, 17, 33, 65, 129];
 
 /// Their widths.
-const WIDTHS1: [u8; 18] = [9, 8, 7, 6, 5, 4, 3, 3, 3, 3, 3, 3, 4, 5, 6, 7, 8, 9];
+pub(crate) const WIDTHS1: [u8; 18] = [9, 8, 7, 6, 5, 4, 3, 3, 3, 3, 3, 3, 4, 5, 6, 7, 8, 9];
 
 /// The entry of each number of nine bits: 16 times the symbol whose code they begin with, plus its width; 0 where
 /// there is none.
-const ENTRIES1: [u16; 512] = [
+pub(crate) const ENTRIES1: [u16; 512] = [
     0, 9, 24, 24, 39, 39, 39, 39, 54, 54, 54, 54, 54, 54, 54, 54, 69, 69, 69, 69, 69, 69, 69, 69,
     69, 69, 69, 69, 69, 69, 69, 69, 84, 84, 84, 84, 84, 84, 84, 84, 84, 84, 84, 84, 84, 84, 84, 84,
     84, 84, 84, 84, 84, 84, 84, 84, 84, 84, 84, 84, 84, 84, 84, 84, 99, 99, 99, 99, 99, 99, 99, 99,
@@ -47,11 +53,11 @@ const ENTRIES1: [u16; 512] = [
 const PATTERNS2: [u8; 16] = [1, 1, 1, 1, 1, 1, 1, 2, 3, 3, 5, 9, 17, 33, 65, 129];
 
 /// Their widths.
-const WIDTHS2: [u8; 16] = [9, 8, 7, 6, 5, 4, 3, 2, 2, 3, 4, 5, 6, 7, 8, 9];
+pub(crate) const WIDTHS2: [u8; 16] = [9, 8, 7, 6, 5, 4, 3, 2, 2, 3, 4, 5, 6, 7, 8, 9];
 
 /// The entry of each number of nine bits: 16 times the symbol whose code they begin with, plus its width; 0 where
 /// there is none.
-const ENTRIES2: [u16; 512] = [
+pub(crate) const ENTRIES2: [u16; 512] = [
     0, 9, 24, 24, 39, 39, 39, 39, 54, 54, 54, 54, 54, 54, 54, 54, 69, 69, 69, 69, 69, 69, 69, 69,
     69, 69, 69, 69, 69, 69, 69, 69, 84, 84, 84, 84, 84, 84, 84, 84, 84, 84, 84, 84, 84, 84, 84, 84,
     84, 84, 84, 84, 84, 84, 84, 84, 84, 84, 84, 84, 84, 84, 84, 84, 99, 99, 99, 99, 99, 99, 99, 99,
@@ -84,11 +90,11 @@ const ENTRIES2: [u16; 512] = [
 const PATTERNS3: [u8; 15] = [1, 1, 1, 1, 1, 1, 1, 1, 3, 5, 9, 17, 33, 65, 129];
 
 /// Their widths.
-const WIDTHS3: [u8; 15] = [9, 8, 7, 6, 5, 4, 3, 1, 3, 4, 5, 6, 7, 8, 9];
+pub(crate) const WIDTHS3: [u8; 15] = [9, 8, 7, 6, 5, 4, 3, 1, 3, 4, 5, 6, 7, 8, 9];
 
 /// The entry of each number of nine bits: 16 times the symbol whose code they begin with, plus its width; 0 where
 /// there is none.
-const ENTRIES3: [u16; 512] = [
+pub(crate) const ENTRIES3: [u16; 512] = [
     0, 9, 24, 24, 39, 39, 39, 39, 54, 54, 54, 54, 54, 54, 54, 54, 69, 69, 69, 69, 69, 69, 69, 69,
     69, 69, 69, 69, 69, 69, 69, 69, 84, 84, 84, 84, 84, 84, 84, 84, 84, 84, 84, 84, 84, 84, 84, 84,
     84, 84, 84, 84, 84, 84, 84, 84, 84, 84, 84, 84, 84, 84, 84, 84, 99, 99, 99, 99, 99, 99, 99, 99,

@@ -3,3 +3,4 @@ pub mod Counting
 pub mod FrameLaws
 pub mod FrameWriting
 pub mod StepLaws
+pub mod WidthLaws

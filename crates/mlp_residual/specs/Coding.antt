@@ -1,5 +1,5 @@
 -- Residuals as symbols and low bits.
-use Rattle.std.specs.Prelude.{◌≡◌, ℕ, suc, zero, ◌+◌, ◌*◌, ◌/◌, ◌^◌, ◌<◌, ℤ, pos, ◌+ℤ◌, ◌-ℤ◌, ◌*ℤ◌, List, [], ◌∷◌, length}
+use Rattle.std.specs.Prelude.{◌≡◌, ℕ, suc, zero, ◌+◌, ◌*◌, ◌/◌, ◌^◌, ◌<◌, ℤ, pos, ◌+ℤ◌, ◌-ℤ◌, ◌*ℤ◌, List, [], ◌∷◌, length, Option, Some, None}
 use Rattle.mlp_syntax.specs.declared.segment.Code.{Code}
 use Rattle.mlp_arith.specs.Words.{wrap}
 use Rattle.mlp_books.specs.Books.{symbol_in}
@@ -43,3 +43,8 @@ length_of book b code = length ((symbol_in book).spelling code.symbol) + b
 unfoldable pub TakeBits : ℕ → ℕ → ℤ → ℕ → List ℤ → ℕ → Type 0
 TakeBits book b offset step [] n = n ≡ 0
 TakeBits book b offset step (r ∷ rs) n = (code : Code) × (m : ℕ) × Spells book b offset step r code × TakeBits book b offset step rs m × (n ≡ length_of book b code + m)
+
+-- a count says how many bits the residuals take, or that they don't all have codes
+abbrev pub Counts : ℕ → ℕ → ℤ → ℕ → List ℤ → Option ℕ → Type 0
+Counts book b offset step rs None = (n : ℕ) → TakeBits book b offset step rs n → ⊥
+Counts book b offset step rs (Some n) = TakeBits book b offset step rs n

@@ -35,7 +35,7 @@ fn power(b: u8) -> u64
 
 /// How far the values lie below those that symbols and low bits spell.
 #[inline]
-fn below_of(book: u8, b: u8) -> u64
+pub(crate) fn below_of(book: u8, b: u8) -> u64
     requires book { book ≤ 3 }
     requires b { b < 32 }
     ensures value { result ≡ below_of book b }
@@ -88,7 +88,7 @@ pub fn residual(book: u8, b: u8, offset: i16, step: u8, code: Code) -> i32
 
 /// The residual over `2^step`, where it is a whole number.
 #[inline]
-fn whole_of(step: u8, residual: i32) -> Option<i64>
+pub(crate) fn whole_of(step: u8, residual: i32) -> Option<i64>
     requires { step < 16 }
     ensures whole { IfSome result (λ v. v *ℤ pos (2 ^ step) ≡ residual) }
     ensures fits { IfSome result (λ v. FitsSigned w32 v) }

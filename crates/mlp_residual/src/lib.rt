@@ -9,6 +9,7 @@ mod count;
 mod frames;
 mod in_force;
 mod laws;
+mod widths;
 mod writing;
 
 pub use block::{ResidualCoding, residuals};
@@ -17,6 +18,7 @@ pub use count::bits_of;
 pub use frames::{ChannelCode, Coding, read_coded};
 pub use in_force::{coding_in_force, read_frames, steps_fit};
 pub use laws::{law_codes, law_frames};
+pub use widths::bits_of_widths;
 pub use writing::{write_coded, write_frames};
 
 #[cfg(test)]
