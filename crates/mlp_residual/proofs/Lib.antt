@@ -4,3 +4,4 @@ pub mod FrameLaws
 pub mod FrameWriting
 pub mod StepLaws
 pub mod WidthLaws
+pub mod AheadLaws

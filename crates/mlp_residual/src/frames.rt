@@ -4,9 +4,11 @@ ghost use Rattle.arrayvec.specs.ArrayVec.{array_vec_len};
 ghost use Rattle.mlp_layout.specs.Layout.{Layout, made, part, number_of};
 ghost use Rattle.mlp_layout.specs.Combined.{flag, chosen, series};
 ghost use Rattle.mlp_layout.specs.Reading.{Gives, with_front};
+ghost use Rattle.mlp_bits.specs.Bits.{bits_of};
 ghost use Rattle.mlp_books.specs.Books.{symbol_in};
 ghost use Rattle.mlp_residual.specs.Frames.{bypass_bits, packed, code, code_at, frame, coded_frames, IsCoded, GivesBehind};
 
+use crate::ahead::{bytes_of, codes_ahead};
 use arrayvec::ArrayVec;
 use mlp_bits::BitReader;
 use mlp_books::symbol_in;
@@ -77,28 +79,60 @@ fn read_code(channel: ChannelCode, r: &mut BitReader) -> Result<Code, Broken>
     Ok(Code { symbol, low })
 }
 
-/// The codes of the channels.
-fn read_codes(channels: &[ChannelCode], r: &mut BitReader) -> Result<ArrayVec<Code, 8>, Broken>
+/// The codes of the channels, field by field.
+fn codes_by_fields(
+    channels: &[ChannelCode],
+    r: &mut BitReader,
+    codes: &mut ArrayVec<Code, 8>,
+) -> Result<(), Broken>
     requires coded { All IsCoded channels.now }
     requires count { length channels.now ≤ 8 }
-    ensures { Gives (λ v. v.items) r.old r.new result ((series (code_at channels.now) (length channels.now) []).read r.old.all r.old.place) }
+    requires none { codes.old.items ≡ [] }
+    ensures { Gives (λ _. codes.new.items) r.old r.new result ((series (code_at channels.now) (length channels.now) []).read r.old.all r.old.place) }
 {
-    let mut codes: ArrayVec<Code, 8> = ArrayVec::new();
     for channel in channels {
         let code = read_code(*channel, r)?;
         codes.push(code);
     }
-    Ok(codes)
+    Ok(())
+}
+
+/// The codes of the channels, from words unless the end is near.
+#[inline]
+fn read_codes(
+    channels: &[ChannelCode],
+    bytes: &[u8],
+    r: &mut BitReader,
+    codes: &mut ArrayVec<Code, 8>,
+) -> Result<(), Broken>
+    requires coded { All IsCoded channels.now }
+    requires count { length channels.now ≤ 8 }
+    requires none { codes.old.items ≡ [] }
+    requires bits { 0 < length bytes.now → bits_of bytes.now ≡ r.old.all }
+    requires short { length bytes.now ≤ 8190 }
+    ensures { Gives (λ _. codes.new.items) r.old r.new result ((series (code_at channels.now) (length channels.now) []).read r.old.all r.old.place) }
+{
+    let place = r.place();
+    if place + 384 > bytes.len() as u32 * 8 {
+        return codes_by_fields(channels, r, codes);
+    }
+    let end = codes_ahead(channels, bytes, place, codes)?;
+    r.skip(end - place);
+    Ok(())
 }
 
 /// One frame.
 #[tactic(auto, unfolding(mlp_layout::specs::Layout::part, mlp_layout::specs::Layout::made, crate::specs::Frames::frame))]
-fn read_frame(coding: &Coding, r: &mut BitReader) -> Result<FrameCode, Broken>
+#[inline]
+fn read_frame(coding: &Coding, bytes: &[u8], r: &mut BitReader) -> Result<FrameCode, Broken>
     requires coded { All IsCoded coding.now.channels.items }
+    requires bits { 0 < length bytes.now → bits_of bytes.now ≡ r.old.all }
+    requires short { length bytes.now ≤ 8190 }
     ensures { Gives (λ x. x) r.old r.new result ((frame coding.now).read r.old.all r.old.place) }
 {
     let bypass = read_bypass(&coding.bypass, r)?;
-    let codes = read_codes(&coding.channels, r)?;
+    let mut codes: ArrayVec<Code, 8> = ArrayVec::new();
+    read_codes(&coding.channels, bytes, r, &mut codes)?;
     Ok(FrameCode { bypass, codes })
 }
 
@@ -115,8 +149,9 @@ pub fn read_coded(
     ensures count { OnOk result (length out.new.items ≡ length out.old.items + frames) }
     ensures read { GivesBehind out.old.items out.new.items r.old r.new result ((coded_frames coding.now frames).read r.old.all r.old.place) }
 {
+    let bytes = bytes_of(r);
     for _ in 0..frames {
-        let frame = read_frame(coding, r)?;
+        let frame = read_frame(coding, bytes, r)?;
         out.push(frame);
     }
     Ok(())

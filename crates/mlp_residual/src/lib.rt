@@ -3,6 +3,7 @@
 //! A residual is coded as a symbol of a codebook and low bits behind it, or as low bits alone.
 #![tactic(auto)]
 
+mod ahead;
 mod block;
 mod coding;
 mod count;

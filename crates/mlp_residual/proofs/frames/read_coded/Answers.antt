@@ -8,7 +8,7 @@ use Rattle.mlp_residual.proofs.FrameLaws.{starts_behind, front_fails}
 use Rattle.mlp_residual.proofs.frames.read_coded.Goals as goal
 
 pub loop-init : goal.loop-init
-loop-init c = record { moved = omega arith; so_far = starts_behind (frame c.args.coding.now) c.args.frames c.args.out.now.items c.args.r.now.all c.args.r.now.place; same_bits = cc; count = omega arith }
+loop-init c = rw c.bytes_of-bytes.ensures.same (record { moved = omega arith; so_far = starts_behind (frame c.args.coding.now) c.args.frames c.args.out.now.items c.args.r.now.all c.args.r.now.place; same_bits = cc; count = omega arith })
 
 pub returns-in_err-frame-clause-read : goal.returns-in_err-frame-clause-read
 unfolding coded_frames

@@ -2,7 +2,7 @@ use Rattle.std.proofs.Common.{◌≡◌, ◌≤◌, ◌-◌, [], length}
 use Rattle.mlp_layout.specs.Combined.{series}
 use Rattle.mlp_layout.proofs.Loops.{SeriesContinues}
 use Rattle.mlp_residual.specs.Frames.{code_at}
-use Rattle.mlp_residual.proofs.frames.read_codes.Given as goal
+use Rattle.mlp_residual.proofs.frames.codes_by_fields.Given as goal
 
 abbrev pub invariant-loop-channel : goal.invariant-loop-channel
 invariant-loop-channel l = record {
