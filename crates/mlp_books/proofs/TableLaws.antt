@@ -1,5 +1,5 @@
 -- What stands in the tables.
-use Rattle.std.proofs.Common.{◌≡◌, ℕ, ◌<◌, ◌≤◌, ◌^◌, Bool, List, length, get_or, map, refl, ap, ◌∙◌, arith}
+use Rattle.std.proofs.Common.{◌≡◌, ℕ, zero, suc, [], ◌<◌, ◌≤◌, ◌^◌, Bool, List, length, get_or, map, refl, ap, ◌∙◌, arith}
 use Rattle.std.specs.Prelude.{◌↔◌}
 use Rattle.std.specs.List.{range_with_len}
 use Rattle.std.proofs.lemmas.List.FromFn.{get_or-map-range_with_len}
@@ -8,7 +8,7 @@ use Rattle.mlp_bits.proofs.Fields.{number-below}
 use Rattle.mlp_layout.specs.Layout.{made}
 use Rattle.mlp_books.specs.BookFacts.{counted1, counted2, counted3}
 use Rattle.mlp_books.specs.Books.{book1, book2, book3, code_of, entry_of, entry_in, begins, find_symbol, symbol_of, symbol_in, Passes}
-use Rattle.mlp_books.specs.declared.tables.TheConstants.{PATTERNS1, PATTERNS2, PATTERNS3, WIDTHS0, WIDTHS1, WIDTHS2, WIDTHS3, ENTRIES0, ENTRIES1, ENTRIES2, ENTRIES3}
+use Rattle.mlp_books.specs.declared.tables.TheConstants.{PATTERNS1, PATTERNS2, PATTERNS3, WIDTHS0, WIDTHS1, WIDTHS2, WIDTHS3, ENTRIES, ENTRIES0, ENTRIES1, ENTRIES2, ENTRIES3}
 use Rattle.mlp_books.proofs.BookLaws.{book_is}
 
 at_place : (xs : List ℕ) (f : ℕ → ℕ) (n : ℕ) → xs ≡ map f (range_with_len 0 n) → (i : ℕ) → i < n → get_or xs i 0 ≡ f i
@@ -102,3 +102,17 @@ entries2 = entry2
 
 pub entries3 : (n : ℕ) → n < 512 → get_or ENTRIES3 n 0 ≡ entry_in 3 n
 entries3 = entry3
+
+pub entries_by_number : (book : ℕ) → book ≤ 3 → (n : ℕ) → n < 512 → get_or (get_or ENTRIES book []) n 0 ≡ entry_in book n
+entries_by_number zero le = entries0
+entries_by_number (suc zero) le = entries1
+entries_by_number (suc (suc zero)) le = entries2
+entries_by_number (suc (suc (suc zero))) le = entries3
+entries_by_number (suc (suc (suc (suc book)))) le = absurd (omega (arith, le))
+
+pub entries_count : (book : ℕ) → book ≤ 3 → length (get_or ENTRIES book []) ≡ 512
+entries_count zero le = refl
+entries_count (suc zero) le = refl
+entries_count (suc (suc zero)) le = refl
+entries_count (suc (suc (suc zero))) le = refl
+entries_count (suc (suc (suc (suc book)))) le = absurd (omega (arith, le))

@@ -10,7 +10,9 @@ mod tables;
 
 pub use codebook::Codebook;
 pub use laws::{law_books, law_symbols};
-pub use symbols::{entries_in, length, lengths_in, put_symbol_in, read_symbol, symbol, symbol_in, write_symbol};
+pub use symbols::{
+    entries_in, length, lengths_in, put_symbol_in, read_symbol, symbol, symbol_in, write_symbol,
+};
 pub use tables::{Book1, Book2, Book3};
 
 #[cfg(test)]

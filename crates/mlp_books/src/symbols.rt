@@ -7,7 +7,7 @@ ghost use Rattle.mlp_layout.specs.Writing.{Writes};
 ghost use Rattle.mlp_books.specs.Books.{code_of, symbol_of, symbol_in, entry_in, GivesSymbol};
 
 use crate::codebook::Codebook;
-use crate::tables::{Book1, Book2, Book3, ENTRIES0, ENTRIES1, ENTRIES2, ENTRIES3, WIDTHS0, WIDTHS1, WIDTHS2, WIDTHS3};
+use crate::tables::{Book1, Book2, Book3, ENTRIES, WIDTHS0, WIDTHS1, WIDTHS2, WIDTHS3};
 use mlp_bits::{BitReader, BitWriter, Full};
 use mlp_layout::{broken, put_all, put_number};
 use mlp_syntax::{Broken, Field};
@@ -147,10 +147,5 @@ pub fn entries_in(book: u8) -> &'static [u16]
     ensures count { length result.now ≡ 2 ^ 9 }
     ensures each { (nine : ℕ) → nine < 2 ^ 9 → slice_index_or result.now nine 0 ≡ entry_in book nine }
 {
-    match book {
-        0 => &ENTRIES0,
-        1 => &ENTRIES1,
-        2 => &ENTRIES2,
-        _ => &ENTRIES3,
-    }
+    &ENTRIES[book as usize]
 }

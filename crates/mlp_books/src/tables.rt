@@ -10,7 +10,7 @@ use crate::codebook::Codebook;
 pub(crate) const WIDTHS0: [u8; 1] = [0];
 
 /// No entries.
-pub(crate) const ENTRIES0: [u16; 512] = [0; 512];
+const ENTRIES0: [u16; 512] = [0; 512];
 
 /// The codes of book 1 as numbers, by symbol.
 const PATTERNS1: [u8; 18] = [1, 1, 1, 1, 1, 1, 1, 4, 5, 6, 7, 3, 5, 9, 17, 33, 65, 129];
@@ -20,7 +20,7 @@ pub(crate) const WIDTHS1: [u8; 18] = [9, 8, 7, 6, 5, 4, 3, 3, 3, 3, 3, 3, 4, 5, 
 
 /// The entry of each number of nine bits: 16 times the symbol whose code they begin with, plus its width; 0 where
 /// there is none.
-pub(crate) const ENTRIES1: [u16; 512] = [
+const ENTRIES1: [u16; 512] = [
     0, 9, 24, 24, 39, 39, 39, 39, 54, 54, 54, 54, 54, 54, 54, 54, 69, 69, 69, 69, 69, 69, 69, 69,
     69, 69, 69, 69, 69, 69, 69, 69, 84, 84, 84, 84, 84, 84, 84, 84, 84, 84, 84, 84, 84, 84, 84, 84,
     84, 84, 84, 84, 84, 84, 84, 84, 84, 84, 84, 84, 84, 84, 84, 84, 99, 99, 99, 99, 99, 99, 99, 99,
@@ -57,7 +57,7 @@ pub(crate) const WIDTHS2: [u8; 16] = [9, 8, 7, 6, 5, 4, 3, 2, 2, 3, 4, 5, 6, 7, 
 
 /// The entry of each number of nine bits: 16 times the symbol whose code they begin with, plus its width; 0 where
 /// there is none.
-pub(crate) const ENTRIES2: [u16; 512] = [
+const ENTRIES2: [u16; 512] = [
     0, 9, 24, 24, 39, 39, 39, 39, 54, 54, 54, 54, 54, 54, 54, 54, 69, 69, 69, 69, 69, 69, 69, 69,
     69, 69, 69, 69, 69, 69, 69, 69, 84, 84, 84, 84, 84, 84, 84, 84, 84, 84, 84, 84, 84, 84, 84, 84,
     84, 84, 84, 84, 84, 84, 84, 84, 84, 84, 84, 84, 84, 84, 84, 84, 99, 99, 99, 99, 99, 99, 99, 99,
@@ -94,7 +94,7 @@ pub(crate) const WIDTHS3: [u8; 15] = [9, 8, 7, 6, 5, 4, 3, 1, 3, 4, 5, 6, 7, 8, 
 
 /// The entry of each number of nine bits: 16 times the symbol whose code they begin with, plus its width; 0 where
 /// there is none.
-pub(crate) const ENTRIES3: [u16; 512] = [
+const ENTRIES3: [u16; 512] = [
     0, 9, 24, 24, 39, 39, 39, 39, 54, 54, 54, 54, 54, 54, 54, 54, 69, 69, 69, 69, 69, 69, 69, 69,
     69, 69, 69, 69, 69, 69, 69, 69, 84, 84, 84, 84, 84, 84, 84, 84, 84, 84, 84, 84, 84, 84, 84, 84,
     84, 84, 84, 84, 84, 84, 84, 84, 84, 84, 84, 84, 84, 84, 84, 84, 99, 99, 99, 99, 99, 99, 99, 99,
@@ -122,6 +122,9 @@ pub(crate) const ENTRIES3: [u16; 512] = [
     113, 113, 113, 113, 113, 113, 113, 113, 113, 113, 113, 113, 113, 113, 113, 113, 113, 113, 113,
     113, 113, 113, 113, 113, 113, 113, 113, 113, 113,
 ];
+
+/// The entries by number of the book.
+pub(crate) const ENTRIES: [[u16; 512]; 4] = [ENTRIES0, ENTRIES1, ENTRIES2, ENTRIES3];
 
 /// Book 1, with 18 symbols.
 pub struct Book1;

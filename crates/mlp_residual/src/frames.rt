@@ -131,9 +131,12 @@ fn read_frame(coding: &Coding, bytes: &[u8], r: &mut BitReader) -> Result<FrameC
     ensures { Gives (λ x. x) r.old r.new result ((frame coding.now).read r.old.all r.old.place) }
 {
     let bypass = read_bypass(&coding.bypass, r)?;
-    let mut codes: ArrayVec<Code, 8> = ArrayVec::new();
-    read_codes(&coding.channels, bytes, r, &mut codes)?;
-    Ok(FrameCode { bypass, codes })
+    let mut frame = FrameCode {
+        bypass,
+        codes: ArrayVec::new(),
+    };
+    read_codes(&coding.channels, bytes, r, &mut frame.codes)?;
+    Ok(frame)
 }
 
 /// Reads so many frames and appends them. A fault is `Code` or `SegmentShort` at the first place that has one; frames

@@ -1,7 +1,15 @@
-use crate::{ChannelCode, Coding, bits_of, code_of, read_coded, residual};
+//! The values of codes and the parameters behind a restart are those that an independent reader of the format gives.
+ghost use Rattle.std.specs.Prelude.{◌≤◌, ◌<◌, length, IfSome};
+ghost use Rattle.mlp_params.specs.States.{IsState};
+
+use crate::{
+    ChannelCode, Coding, ResidualCoding, bits_of, bits_of_widths, code_of, coding_in_force,
+    law_codes, law_frames, read_coded, read_frames, residual, residuals, steps_fit,
+};
 use arrayvec::ArrayVec;
 use mlp_bits::BitReader;
-use mlp_syntax::{Broken, Code, Field, FrameCode};
+use mlp_params::{State, read_restart};
+use mlp_syntax::{Broken, Code, Field, FrameCode, Kind};
 
 #[test]
 fn residuals_of_codes(rt: HostRuntime) {
@@ -35,6 +43,14 @@ fn bits_are_counted(rt: HostRuntime) {
     assert_eq!(rt; bits_of(0, 0, 0, 0, &[0; 8]), Some(0));
     assert_eq!(rt; bits_of(3, 0, 0, 0, &[0, 0, 1, -1]), Some(8));
     assert_eq!(rt; bits_of(3, 0, 0, 0, &[0, 100]), None);
+    let mut counts = [None; 3];
+    bits_of_widths(3, 0, 0, 0, &[0, 0, 1, -1], &mut counts);
+    assert!(rt; counts == [Some(8), Some(10), Some(12)]);
+    let mut counts = [None; 2];
+    bits_of_widths(3, 3, 0, 0, &[0, 100], &mut counts);
+    assert!(rt; counts == [None, Some(17)]);
+    bits_of_widths(3, 3, 0, 1, &[0, 99], &mut counts);
+    assert!(rt; counts == [None, None]);
 }
 
 #[test]
@@ -74,4 +90,96 @@ fn frames_of_two_channels(rt: HostRuntime) {
         bit: 2,
     };
     assert_eq!(rt; read_coded(&coding, 1, &mut gap, &mut later), Err(code));
+}
+
+/// What is in force behind the restart header of a silent stereo stream, the bits of which stand behind two others.
+fn at_restart() -> Option<State>
+    ensures { IfSome result (λ s. IsState s) }
+{
+    let mut r = BitReader::new(&[
+        0xF1, 0xEA, 0x0E, 0x10, 0x01, 0x10, 0, 0, 0, 0, 0, 0, 0, 0, 0, 0x03, 0x98, 0x8A, 0x04, 0x00,
+    ]);
+    if r.take(2).is_err() {
+        return None;
+    }
+    match read_restart(Kind::Fba, &mut r) {
+        Ok(header) => Some(State::at_restart(Kind::Fba, 40, &header)),
+        Err(_broken) => None,
+    }
+}
+
+#[test]
+fn frames_behind_a_restart(rt: HostRuntime) {
+    let Some(state) = at_restart() else {
+        panic!(rt; "the restart header is one");
+    };
+    law_codes();
+    law_frames();
+    assert!(rt; steps_fit(&state));
+    let coding = coding_in_force(&state);
+    assert_eq!(rt; coding.bypass.len(), 0);
+    assert!(rt; coding.channels.as_slice() == [ChannelCode { book: 0, low: 24 }; 2].as_slice());
+    let bytes = [0x80, 0x00, 0x01, 0x7F, 0xFF, 0xFF];
+    let mut r = BitReader::new(&bytes);
+    let mut frames: ArrayVec<FrameCode, 160> = ArrayVec::new();
+    assert_eq!(rt; read_frames(&state, 1, &mut r, &mut frames), Ok(()));
+    assert_eq!(rt; r.place(), 48);
+}
+
+/// The residual of one code, read as the frames of a block are.
+fn read_residual(book: u8, low: u8, bytes: &[u8]) -> Result<i32, Broken>
+    requires book { book ≤ 3 }
+    requires low { low < 32 }
+    requires bytes { length bytes.now ≤ 8190 }
+{
+    let mut channels: ArrayVec<ChannelCode, 8> = ArrayVec::new();
+    channels.push(ChannelCode { book, low });
+    let coding = Coding {
+        bypass: ArrayVec::new(),
+        channels,
+    };
+    let mut frames: ArrayVec<FrameCode, 160> = ArrayVec::new();
+    read_coded(&coding, 1, &mut BitReader::new(bytes), &mut frames)?;
+    let code = frames[0].codes.first().copied().unwrap_or_default();
+    let mut coded = FrameCode::default();
+    coded.codes.push(code);
+    let coding = ResidualCoding {
+        book,
+        low,
+        offset: 0,
+        step: 0,
+    };
+    let mut out = [0];
+    residuals(&coding, 0, &[coded], &mut out);
+    Ok(out[0])
+}
+
+/// From bits to residuals, both in few bytes, field by field, and in many, from words.
+#[test]
+fn residuals_of_bits(rt: HostRuntime) {
+    for (book, low, first, value) in [
+        (1, 0, [0x80, 0x00, 0x00], -2),
+        (3, 0, [0x80, 0x00, 0x00], 0),
+        (3, 2, [0xC0, 0x00, 0x00], 0),
+        (0, 24, [0x80, 0x00, 0x01], 1),
+    ] {
+        assert!(rt; book <= 3 && low < 32);
+        assert_eq!(rt; read_residual(book, low, &first), Ok(value));
+        let mut many = [0; 100];
+        many[0] = first[0];
+        many[1] = first[1];
+        many[2] = first[2];
+        assert_eq!(rt; read_residual(book, low, &many), Ok(value));
+    }
+    let none = Broken {
+        field: Field::Code,
+        bit: 0,
+    };
+    for book in 1..4 {
+        let mut gap = [0; 100];
+        gap[0] = 0x40;
+        assert!(rt; book <= 3);
+        assert_eq!(rt; read_residual(book, 0, &gap), Err(none));
+        assert_eq!(rt; read_residual(book, 0, &gap[..2]), Err(none));
+    }
 }
