@@ -552,6 +552,21 @@ fn rules_on_directory(rt: HostRuntime) {
     }
 }
 
+#[test]
+fn a_cut_unit_is_no_frame(rt: HostRuntime) {
+    let short = Broken {
+        field: Field::UnitHeader,
+        bit: 0,
+    };
+    let long = Broken {
+        field: Field::UnitLength,
+        bit: 4,
+    };
+    assert_eq!(rt; frame(&FIRST_TRUEHD[..3]), Err(short));
+    assert_eq!(rt; frame(&FIRST_TRUEHD[..57]), Err(long));
+    assert_eq!(rt; frame(&FIRST_TRUEHD), Ok(58));
+}
+
 /// A silent first unit with a long major sync.
 const FIRST_LONG: [u8; 60] = [
     0xE0, 0x1E, 0, 0, 0xF8, 0x72, 0x6F, 0xBA, 0, 0, 0x80, 1, 0xB7, 0x52, 0, 0, 0, 0, 0x97, 0x6F,
