@@ -1,5 +1,5 @@
 -- The mixes: what is coded of a frame of PCM, and what each presentation shows of it. Values are of 24 bits, with low q bits 0.
-use Rattle.std.specs.Prelude.{◌≡◌, ℕ, zero, suc, ◌+◌, ◌*◌, ◌^◌, ◌<◌, ◌==◌, nat_lt, List, [], ◌∷◌, slice_index_or, ℤ, pos, negsuc, neg_ℤ, ◌+ℤ◌, ◌-ℤ◌, ◌*ℤ◌, ◌≤ℤ◌, ◌<ℤ◌, cond, if◌then◌else◌}
+use Rattle.std.specs.Prelude.{◌≡◌, ℕ, zero, suc, ◌+◌, ◌*◌, ◌^◌, ◌<◌, ◌==◌, nat_lt, List, [], ◌∷◌, slice_index_or, ℤ, pos, neg_ℤ, ◌+ℤ◌, ◌-ℤ◌, ◌*ℤ◌, ◌≤ℤ◌, ◌<ℤ◌, cond, if◌then◌else◌}
 use Rattle.mlp_arith.specs.Words.{floor_by, clear}
 use Rattle.mlp_matrix.specs.Matrix.{is_even}
 use Rattle.mlp_fold.specs.declared.profile.Mix.{Mix}
@@ -49,10 +49,10 @@ lowered q x sum = x -ℤ clear q (floor_by 14 sum)
 
 -- of 6 channels: from centre and surround; of 8: from centre and the sum of surround and back
 abbrev pub front6 : ℕ → ℤ → ℤ → ℤ → ℤ
-front6 q x centre surround = lowered q x (negsuc 11584 *ℤ centre +ℤ negsuc 11584 *ℤ surround)
+front6 q x centre surround = lowered q x (neg_ℤ (pos 11585) *ℤ centre +ℤ neg_ℤ (pos 11585) *ℤ surround)
 
 abbrev pub front8 : ℕ → ℤ → ℤ → ℤ → ℤ
-front8 q x centre sum = lowered q x (negsuc 11584 *ℤ centre +ℤ negsuc 5792 *ℤ sum)
+front8 q x centre sum = lowered q x (neg_ℤ (pos 11585) *ℤ centre +ℤ neg_ℤ (pos 5793) *ℤ sum)
 
 -- a front channel of the stereo presentation, and a side channel of the six-channel one
 abbrev pub stereo : ℕ → ℤ → ℤ

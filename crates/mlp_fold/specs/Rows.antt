@@ -1,5 +1,5 @@
 -- The rows and steps of the mixes. In substreams 0 and 1 two noise sources stand behind the channels.
-use Rattle.std.specs.Prelude.{ℕ, zero, suc, ◌==◌, List, [], ◌∷◌, slice_set, ℤ, pos, negsuc, Bool, true, false, Option, Some, None, if◌then◌else◌}
+use Rattle.std.specs.Prelude.{ℕ, zero, suc, ◌==◌, List, [], ◌∷◌, slice_set, ℤ, pos, neg_ℤ, Bool, true, false, Option, Some, None, if◌then◌else◌}
 use Rattle.mlp_syntax.specs.declared.params.MatrixRow.{MatrixRow}
 use Rattle.mlp_fold.specs.declared.profile.Mix.{Mix}
 use Rattle.mlp_fold.specs.declared.profile.Mix.TheVariants.{Split, Fold, Bypass, Side}
@@ -18,21 +18,21 @@ on sources = placed (None ∷ None ∷ None ∷ None ∷ None ∷ None ∷ None 
 
 -- a front channel with centre and a surround channel
 abbrev pub left : ℤ → List (Option ℤ)
-left surround = on ((0, pos 16384) ∷ (2, negsuc 11584) ∷ (4, surround) ∷ [])
+left surround = on ((0, pos 16384) ∷ (2, neg_ℤ (pos 11585)) ∷ (4, surround) ∷ [])
 
 abbrev pub right : ℤ → List (Option ℤ)
-right surround = on ((1, pos 16384) ∷ (2, negsuc 11584) ∷ (5, surround) ∷ [])
+right surround = on ((1, pos 16384) ∷ (2, neg_ℤ (pos 11585)) ∷ (5, surround) ∷ [])
 
 abbrev pub fold_rows : ℕ → ℕ → List MatrixRow
 fold_rows zero channels = row 0 14 false (Some (pos 6786) ∷ None ∷ None ∷ None ∷ []) ∷ row 1 14 false (None ∷ Some (pos 6786) ∷ None ∷ None ∷ []) ∷ []
 fold_rows (suc zero) channels =
     if channels == 6
-    then row 0 14 false (left (negsuc 11584)) ∷ row 1 14 false (right (negsuc 11584)) ∷ []
-    else row 0 14 false (left (negsuc 5792)) ∷ row 1 14 false (right (negsuc 5792)) ∷ row 4 14 false (on ((4, pos 8192) ∷ [])) ∷ row 5 14 false (on ((5, pos 8192) ∷ [])) ∷ []
+    then row 0 14 false (left (neg_ℤ (pos 11585))) ∷ row 1 14 false (right (neg_ℤ (pos 11585))) ∷ []
+    else row 0 14 false (left (neg_ℤ (pos 5793))) ∷ row 1 14 false (right (neg_ℤ (pos 5793))) ∷ row 4 14 false (on ((4, pos 8192) ∷ [])) ∷ row 5 14 false (on ((5, pos 8192) ∷ [])) ∷ []
 fold_rows (suc (suc k)) channels =
-    row 0 14 false (left (negsuc 5792)) ∷ row 1 14 false (right (negsuc 5792))
-    ∷ row 4 14 false (on ((4, pos 16384) ∷ (6, negsuc 16383) ∷ []))
-    ∷ row 5 14 false (on ((5, pos 16384) ∷ (7, negsuc 16383) ∷ [])) ∷ []
+    row 0 14 false (left (neg_ℤ (pos 5793))) ∷ row 1 14 false (right (neg_ℤ (pos 5793)))
+    ∷ row 4 14 false (on ((4, pos 16384) ∷ (6, neg_ℤ (pos 16384)) ∷ []))
+    ∷ row 5 14 false (on ((5, pos 16384) ∷ (7, neg_ℤ (pos 16384)) ∷ [])) ∷ []
 
 abbrev pub bypass_rows : ℕ → List MatrixRow
 bypass_rows zero = []

@@ -1,6 +1,6 @@
 //! Sums of a mix.
 
-ghost use Rattle.std.specs.Prelude.{◌≡◌, ◌≤◌, ◌^◌, pos, negsuc, neg_ℤ, ◌+ℤ◌, ◌*ℤ◌, ◌≤ℤ◌, ◌<ℤ◌};
+ghost use Rattle.std.specs.Prelude.{◌≡◌, ◌≤◌, ◌^◌, pos, neg_ℤ, ◌+ℤ◌, ◌*ℤ◌, ◌≤ℤ◌, ◌<ℤ◌};
 ghost use Rattle.mlp_fold.specs.Mix.{IsSample, Is26, lowered, front6, front8, stereo, halved};
 
 use mlp_arith::{clear, floor_by, wrap};
@@ -21,7 +21,7 @@ fn lowered(q: u8, value: i32, sum: i64) -> i32
 fn part6(q: u8, centre: i32, surround: i32) -> i64
     requires centre { IsSample q centre }
     requires surround { IsSample q surround }
-    ensures value { result ≡ negsuc 11584 *ℤ centre +ℤ negsuc 11584 *ℤ surround }
+    ensures value { result ≡ neg_ℤ (pos 11585) *ℤ centre +ℤ neg_ℤ (pos 11585) *ℤ surround }
     ensures low { neg_ℤ (pos (2 ^ 38)) ≤ℤ result }
     ensures high { result ≤ℤ pos (2 ^ 38) }
 {
@@ -33,7 +33,7 @@ fn part8(q: u8, centre: i32, sum: i32) -> i64
     requires centre { IsSample q centre }
     requires low { neg_ℤ (pos (2 ^ 24)) ≤ℤ sum }
     requires high { sum ≤ℤ pos (2 ^ 24) }
-    ensures value { result ≡ negsuc 11584 *ℤ centre +ℤ negsuc 5792 *ℤ sum }
+    ensures value { result ≡ neg_ℤ (pos 11585) *ℤ centre +ℤ neg_ℤ (pos 5793) *ℤ sum }
     ensures low { neg_ℤ (pos (2 ^ 38)) ≤ℤ result }
     ensures high { result ≤ℤ pos (2 ^ 38) }
 {
