@@ -2,7 +2,7 @@
 //! times, and prints a sum of what it gives.
 #![tactic(auto)]
 
-ghost use Rattle.std.specs.Prelude.{◌≤◌};
+ghost use Rattle.std.specs.Prelude.{◌≤◌, length};
 
 use mlp_bits::nibble_parity;
 use mlp_syntax::MajorSync;
@@ -29,6 +29,15 @@ fn units() -> [[u8; 18]; 16] {
     units
 }
 
+/// The parity of a unit whose directory ends at this byte. Nothing else is in this call.
+#[inline(never)]
+fn parity_of(unit: &[u8], end: usize) -> u8
+    requires start { 4 ≤ end }
+    requires end { end ≤ length unit.now }
+{
+    nibble_parity(&unit[..4], &unit[4..end])
+}
+
 /// Reads a unit.
 fn read(unit: &[u8], first: &MajorSync) -> u32
     requires { first.now.substreams ≤ 4 }
@@ -47,7 +56,7 @@ fn parity(unit: &[u8], end: usize) -> u32 {
     if frame(unit) != Ok(unit.len()) || end < 4 || end > unit.len() {
         return 0;
     }
-    u32::from(nibble_parity(&unit[..4], &unit[4..end]))
+    u32::from(parity_of(unit, end))
 }
 
 /// Reads the units in turn, so many in all.

@@ -1,5 +1,5 @@
 //! Reading the directory.
-ghost use Rattle.std.specs.Prelude.{◌≡◌, ◌≤◌, ◌*◌, MatchResult, Ok, Err, length};
+ghost use Rattle.std.specs.Prelude.{◌≡◌, ◌≤◌, ◌*◌, MatchResult, Ok, Err, [], length};
 ghost use Rattle.mlp_bits.specs.Bits.{bits_of};
 ghost use Rattle.mlp_layout.specs.Reading.{Gives};
 ghost use Rattle.mlp_layout.specs.Layout.{number_of, whole};
@@ -45,19 +45,23 @@ fn read_entry(r: &mut BitReader) -> Result<DirEntry, Broken>
     })
 }
 
-/// So many entries, or DirectoryShort.
+/// Reads so many entries, or DirectoryShort.
 #[inline(always)]
 #[tactic(auto, unfolding(crate::specs::Directory::directory))]
-pub fn read_entries(count: u8, r: &mut BitReader) -> Result<ArrayVec<DirEntry, 4>, Broken>
-    requires { count ≤ 4 }
-    ensures { Gives (λ v. v.items) r.old r.new result ((directory count).read r.old.all r.old.place) }
+pub fn read_entries(
+    count: u8,
+    entries: &mut ArrayVec<DirEntry, 4>,
+    r: &mut BitReader,
+) -> Result<(), Broken>
+    requires few { count ≤ 4 }
+    requires empty { entries.old.items ≡ [] }
+    ensures { Gives (λ x. entries.new.items) r.old r.new result ((directory count).read r.old.all r.old.place) }
 {
-    let mut entries: ArrayVec<DirEntry, 4> = ArrayVec::new();
     for _ in 0..count {
         let next = read_entry(r)?;
         entries.push(next);
     }
-    Ok(entries)
+    Ok(())
 }
 
 /// The entries of a directory at the front of these bytes and their length in bytes; or DirectoryShort where the bytes
@@ -74,7 +78,8 @@ pub fn read_directory(
         (λ e. (lone_directory kind substreams).read (bits_of bytes.now) 0 ≡ Err e) }
 {
     let mut r = BitReader::new(bytes);
-    let entries = read_entries(substreams, &mut r)?;
+    let mut entries: ArrayVec<DirEntry, 4> = ArrayVec::new();
+    read_entries(substreams, &mut entries, &mut r)?;
     if let Some(place) = first_extra_word(kind, 0, &entries) {
         return Err(broken(Field::ExtraWord, place));
     }

@@ -1,6 +1,6 @@
 //! Reading the outer part of an access unit.
 ghost use Rattle.std.specs.Option.{option_copied};
-ghost use Rattle.std.specs.Prelude.{◌≡◌, ◌≤◌, ◌+◌, ◌*◌, ◌/◌, ◌%◌, ◌&&◌, IsTrue, true, false, nat_le, is_some, Some, None, MatchResult, IfOk, IfSome, length, Ok, Err, drop};
+ghost use Rattle.std.specs.Prelude.{◌≡◌, ◌≤◌, ◌+◌, ◌*◌, ◌/◌, ◌%◌, ◌&&◌, IsTrue, true, [], nat_le, is_some, Some, None, MatchResult, IfOk, IfSome, length, Ok, Err, drop};
 ghost use Rattle.mlp_bits.specs.Bits.{bits_of};
 ghost use Rattle.mlp_layout.specs.Reading.{Gives};
 ghost use Rattle.mlp_layout.specs.Layout.{next_is};
@@ -57,50 +57,73 @@ fn has_sync(unit: &[u8]) -> bool
     bits == 0x7C3937DD
 }
 
-/// The major sync, where one is there.
+/// Reads the major sync, which is there, into `major`. It is kept out of the way of the units without one.
+#[inline(never)]
+#[tactic(auto, unfolding(mlp_layout::specs::Layout::seen, mlp_layout::specs::Layout::made, mlp_layout::specs::Combined::chosen, mlp_layout::specs::Combined::present))]
+fn read_major(
+    unit: &[u8],
+    first: Option<&MajorSync>,
+    major: &mut Option<MajorSync>,
+    r: &mut BitReader,
+) -> Result<(), Broken>
+    requires same { r.old.all ≡ bits_of unit.now }
+    requires whole { r.old.place % 8 ≡ 0 }
+    requires room { r.old.place + 32 ≤ 8 * length unit.now }
+    ensures read { Gives (λ x. major.new) r.old r.new result ((present true (major_sync (option_copied first.entry))).read r.old.all r.old.place) }
+    ensures usable { IfOk result (λ x. IfSome major.new IsUsable) }
+{
+    *major = Some(read_sync(unit, first, r)?);
+    Ok(())
+}
+
+/// Reads the major sync into `major`, where one is there.
+#[inline(always)]
 #[tactic(auto, unfolding(mlp_layout::specs::Layout::seen, mlp_layout::specs::Layout::made, mlp_layout::specs::Combined::chosen, mlp_layout::specs::Combined::present))]
 fn read_present(
     there: bool,
     unit: &[u8],
     first: Option<&MajorSync>,
+    major: &mut Option<MajorSync>,
     r: &mut BitReader,
-) -> Result<Option<MajorSync>, Broken>
+) -> Result<(), Broken>
+    requires none { major.old ≡ None }
     requires same { r.old.all ≡ bits_of unit.now }
     requires whole { r.old.place % 8 ≡ 0 }
     requires room { IsTrue there → r.old.place + 32 ≤ 8 * length unit.now }
-    ensures read { Gives (λ o. o) r.old r.new result ((present there (major_sync (option_copied first.entry))).read r.old.all r.old.place) }
-    ensures usable { IfOk result (λ o. IfSome o IsUsable) }
+    ensures read { Gives (λ x. major.new) r.old r.new result ((present there (major_sync (option_copied first.entry))).read r.old.all r.old.place) }
+    ensures usable { IfOk result (λ x. IfSome major.new IsUsable) }
 {
-    if !there {
-        return Ok(None);
+    if there {
+        return read_major(unit, first, major, r);
     }
-    let major = read_sync(unit, first, r)?;
-    Ok(Some(major))
+    Ok(())
 }
 
-/// The entries behind the major sync, or behind the head where there is none.
+/// Reads the entries behind the major sync, or behind the head where there is none.
 #[inline(always)]
 fn read_behind_sync(
     unit: &[u8],
     first: Option<&MajorSync>,
     head: UnitHead,
     major: &Option<MajorSync>,
+    entries: &mut ArrayVec<DirEntry, 4>,
     r: &mut BitReader,
-) -> Result<ArrayVec<DirEntry, 4>, Broken>
+) -> Result<(), Broken>
+    requires empty { entries.old.items ≡ [] }
     requires same { r.old.all ≡ bits_of unit.now }
     requires size { length unit.now ≡ 2 * head.words }
     requires place { r.old.place ≡ 32 + 8 * major_size major.now }
     requires few { substreams_of (in_force (option_copied first) major.now) ≤ 4 }
-    ensures read { MatchResult result (λ es. (behind_sync (option_copied first.entry) head major.now).read r.old.all r.old.place ≡ Ok (unit_of unit.now head major.now es.items (r.new.place / 8), 8 * length unit.now))
+    ensures read { MatchResult result (λ x. (behind_sync (option_copied first.entry) head major.now).read r.old.all r.old.place ≡ Ok (unit_of unit.now head major.now entries.new.items (r.new.place / 8), 8 * length unit.now))
         (λ e. (behind_sync (option_copied first.entry) head major.now).read r.old.all r.old.place ≡ Err e) }
-    ensures body { IfOk result (λ es. r.new.place / 8 ≡ body_place (unit_of unit.now head major.now es.items (r.new.place / 8))) }
+    ensures body { IfOk result (λ x. r.new.place / 8 ≡ body_place (unit_of unit.now head major.now entries.new.items (r.new.place / 8))) }
 {
     let Some(sync) = in_force(first, major) else {
         return Err(broken(Field::FirstSync, r.place()));
     };
-    let entries = read_entries(sync.substreams, r)?;
+    read_entries(sync.substreams, entries, r)?;
     let _body = r.place();
-    Ok(entries)
+    Ok(())
 }
 
 /// The byte of the unit at which the directory begins.
@@ -148,59 +171,11 @@ fn check_directory(
     Ok(())
 }
 
-/// The outer part of a unit with a major sync.
-fn read_with_sync(unit: &[u8], first: Option<&MajorSync>) -> Result<Outer, Broken>
-    requires there { true ≡ (nat_le 8 (length unit.now) && next_is 31 sync (drop 32 (bits_of unit.now))) }
-    requires framed { frame_of unit.now ≡ Ok (length unit.now) }
-    requires few { substreams_of (option_copied first) ≤ 4 }
-    ensures read { MatchResult result (λ o. (access_unit (option_copied first.entry)).read (bits_of unit.now) 0 ≡ Ok (unit_with unit.now o, 8 * length unit.now))
-        (λ e. (access_unit (option_copied first.entry)).read (bits_of unit.now) 0 ≡ Err e) }
-    ensures body { IfOk result (λ o. o.body ≡ body_place (unit_with unit.now o)) }
-    ensures usable { IfOk result (λ o. IfSome o.major IsUsable) }
-{
-    let mut r = BitReader::new(unit);
-    let head = read_head(&mut r)?;
-    let major = read_present(true, unit, first, &mut r)?;
-    let entries = read_behind_sync(unit, first, head, &major, &mut r)?;
-    let body = r.place() / 8;
-    check_directory(unit, first, head, &major, &entries, body as usize)?;
-    Ok(Outer {
-        head,
-        major,
-        entries,
-        body,
-    })
-}
-
-/// The outer part of a unit without a major sync.
-#[inline(always)]
-fn read_without_sync(unit: &[u8], first: Option<&MajorSync>) -> Result<Outer, Broken>
-    requires none { false ≡ (nat_le 8 (length unit.now) && next_is 31 sync (drop 32 (bits_of unit.now))) }
-    requires framed { frame_of unit.now ≡ Ok (length unit.now) }
-    requires few { substreams_of (option_copied first) ≤ 4 }
-    ensures read { MatchResult result (λ o. (access_unit (option_copied first.entry)).read (bits_of unit.now) 0 ≡ Ok (unit_with unit.now o, 8 * length unit.now))
-        (λ e. (access_unit (option_copied first.entry)).read (bits_of unit.now) 0 ≡ Err e) }
-    ensures body { IfOk result (λ o. o.body ≡ body_place (unit_with unit.now o)) }
-    ensures usable { IfOk result (λ o. IfSome o.major IsUsable) }
-{
-    let mut r = BitReader::new(unit);
-    let head = read_head(&mut r)?;
-    let major: Option<MajorSync> = None;
-    let entries = read_behind_sync(unit, first, head, &major, &mut r)?;
-    let body = r.place() / 8;
-    check_directory(unit, first, head, &major, &entries, body as usize)?;
-    Ok(Outer {
-        head,
-        major,
-        entries,
-        body,
-    })
-}
-
 /// The outer part of an access unit, or the first rule that fails: of the major sync, where one is there, and then of the
 /// directory. `first` is the stream's first major sync, and `None` for the first unit.
 ///
 /// `frame` gave exactly this length.
+#[inline(never)]
 pub fn read_outer(unit: &[u8], first: Option<&MajorSync>) -> Result<Outer, Broken>
     requires framed { frame_of unit.now ≡ Ok (length unit.now) }
     requires few { substreams_of (option_copied first) ≤ 4 }
@@ -209,8 +184,18 @@ pub fn read_outer(unit: &[u8], first: Option<&MajorSync>) -> Result<Outer, Broke
     ensures body { IfOk result (λ o. o.body ≡ body_place (unit_with unit.now o)) }
     ensures usable { IfOk result (λ o. IfSome o.major IsUsable) }
 {
-    if has_sync(unit) {
-        return read_with_sync(unit, first);
-    }
-    read_without_sync(unit, first)
+    let mut major: Option<MajorSync> = None;
+    let mut entries: ArrayVec<DirEntry, 4> = ArrayVec::new();
+    let mut r = BitReader::new(unit);
+    let head = read_head(&mut r)?;
+    read_present(has_sync(unit), unit, first, &mut major, &mut r)?;
+    read_behind_sync(unit, first, head, &major, &mut entries, &mut r)?;
+    let body = r.place() / 8;
+    check_directory(unit, first, head, &major, &entries, body as usize)?;
+    Ok(Outer {
+        head,
+        major,
+        entries,
+        body,
+    })
 }
