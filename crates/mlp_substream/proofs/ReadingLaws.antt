@@ -93,16 +93,13 @@ filled before hs ks cs ds e d = ap (λ (xs : List BlockHead). seg xs cs) e ∙ a
     seg : List BlockHead → List FrameCode → Segment
     seg xs ys = record before { blocks = record { items = xs }; codes = record { items = ys } }
 
-pub out_starts : (s : Segment) → s.blocks.items ≡ [] → s.codes.items ≡ [] → s ≡ with_blocks s []
-unfolding heads_of codes_of
-out_starts s h k = filled s s.blocks.items [] s.codes.items [] h k
+-- with the heads that are left of those that stand there
+pub out_filled : (out before : Segment) (bs : List Block) (hs : List BlockHead) → out ≡ record before { blocks = out.blocks; codes = out.codes } → hs ≡ heads_of bs → out.codes.items ≡ codes_of bs → record out { blocks = record { items = hs } } ≡ with_blocks before bs
+out_filled out before bs hs rest e d = ap (λ (s : Segment). record s { blocks = record { items = hs } }) rest ∙ filled before hs (heads_of bs) out.codes.items (codes_of bs) e d
 
-pub out_more : (out before : Segment) (done : List Block) (b : Block) (hs : List BlockHead) (cs : List FrameCode) → out ≡ with_blocks before done → hs ≡ out.blocks.items ++ b.head ∷ [] → cs ≡ out.codes.items ++ b.frames
-    → record out { blocks = record { items = hs }; codes = record { items = cs } } ≡ with_blocks before (done ++ b ∷ [])
-out_more out before done b hs cs o h k =
-    let heads : hs ≡ heads_of (done ++ b ∷ []) = h ∙ ap (λ (s : Segment). s.blocks.items ++ b.head ∷ []) o ∙ sym (heads_of-push done b) in
-    let codes : cs ≡ codes_of (done ++ b ∷ []) = k ∙ ap (λ (s : Segment). s.codes.items ++ b.frames) o ∙ sym (codes_of-push done b) in
-    ap (λ (s : Segment). record s { blocks = record { items = hs }; codes = record { items = cs } }) o ∙ filled before hs (heads_of (done ++ b ∷ [])) cs (codes_of (done ++ b ∷ [])) heads codes
+-- with the blocks behind those that were read, and all else as it was
+pub rest_stays : (next out before : Segment) → next ≡ record out { blocks = next.blocks; codes = next.codes } → out ≡ record before { blocks = out.blocks; codes = out.codes } → next ≡ record before { blocks = next.blocks; codes = next.codes }
+rest_stays next out before e d = e ∙ ap (λ (s : Segment). record s { blocks = next.blocks; codes = next.codes }) d
 
 pub no_front : {A : Type 0} (r : Read (List A)) → with_front [] r ≡ r
 no_front (Ok x) = refl

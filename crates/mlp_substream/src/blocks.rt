@@ -1,5 +1,5 @@
 //! Reading the blocks of a segment.
-ghost use Rattle.std.specs.Prelude.{◌≡◌, ◌+◌, ◌≤◌, ◌<◌, ◌++◌, [], ℕ, List, Ok, Err, IfOk, OnOk, IfSome, MatchResult, Option, true, length};
+ghost use Rattle.std.specs.Prelude.{◌≡◌, ◌+◌, ◌≤◌, ◌<◌, ◌++◌, [], ◌∷◌, ℕ, List, Ok, Err, IfErr, IsErr, OnOk, IfSome, MatchResult, Option, true, length, take};
 ghost use Rattle.arrayvec.specs.ArrayVec.{array_vec_len};
 ghost use Rattle.mlp_syntax.specs.declared.segment.FrameCode.{FrameCode};
 ghost use Rattle.mlp_syntax.specs.declared.fault.Field.TheVariants.{BlockOverrun};
@@ -55,20 +55,21 @@ fn read_block(
     due: bool,
     state: &mut Option<State>,
     r: &mut BitReader,
+    head: &mut BlockHead,
     codes: &mut ArrayVec<FrameCode, 160>,
-) -> Result<BlockHead, Broken>
+) -> Result<(), Broken>
     requires place { IsPlace place.now }
     requires state { IfSome state.old (λ s. FitsPlace place.now.format place.now.unit_frames s) }
     ensures read { MatchResult result
-        (λ h. (fs : List FrameCode) × ((block place.now known.now (record { force = state.old; so_far = length codes.old.items; due = due })).read r.old.all r.old.place ≡ Ok (record { head = h; frames = fs }, r.new.place))
+        (λ _. (fs : List FrameCode) × ((block place.now known.now (record { force = state.old; so_far = length codes.old.items; due = due })).read r.old.all r.old.place ≡ Ok (record { head = head.new; frames = fs }, r.new.place))
         × (codes.new.items ≡ codes.old.items ++ fs))
         (λ e. (block place.now known.now (record { force = state.old; so_far = length codes.old.items; due = due })).read r.old.all r.old.place ≡ Err e) }
     ensures moved { OnOk result ((r.new.all ≡ r.old.all) × (r.old.place ≤ r.new.place)) }
-    ensures force { IfOk result (λ h. state.new ≡ after_head place.now state.old h) }
+    ensures force { OnOk result (state.new ≡ after_head place.now state.old head.new) }
     ensures state { OnOk result (IfSome state.new (λ s. FitsPlace place.now.format place.now.unit_frames s)) }
-    ensures count { IfOk result (λ h. (length codes.new.items ≡ length codes.old.items + h.frames) × (8 ≤ h.frames) × (length codes.new.items ≤ place.now.unit_frames)) }
+    ensures count { OnOk result ((length codes.new.items ≡ length codes.old.items + head.new.frames) × (8 ≤ head.new.frames) × (length codes.new.items ≤ place.now.unit_frames)) }
 {
-    let head = read_head(place, known, due, state, r)?;
+    read_head(place, known, due, state, r, head)?;
     let at = r.place();
     if !have_steps_fit(state) {
         return Err(broken(Field::StepTooLarge, at));
@@ -77,10 +78,63 @@ fn read_block(
         return Err(broken(Field::BlockOverrun, at));
     }
     read_codes(state, head.frames, r, codes)?;
-    Ok(head)
+    Ok(())
 }
 
-/// The blocks up to the last one.
+/// A block whose head stands behind the first `count`, in place of one that is there.
+fn read_block_behind(
+    place: &Place,
+    known: &Known,
+    due: bool,
+    count: usize,
+    state: &mut Option<State>,
+    r: &mut BitReader,
+    out: &mut Segment,
+) -> Result<(), Broken>
+    requires place { IsPlace place.now }
+    requires state { IfSome state.old (λ s. FitsPlace place.now.format place.now.unit_frames s) }
+    requires few { count < 20 }
+    requires heads { count ≤ length out.old.blocks.items }
+    ensures read { MatchResult result
+        (λ _. (h : BlockHead) × (fs : List FrameCode) × ((block place.now known.now (record { force = state.old; so_far = length out.old.codes.items; due = due })).read r.old.all r.old.place ≡ Ok (record { head = h; frames = fs }, r.new.place))
+        × (take (count + 1) out.new.blocks.items ≡ take count out.old.blocks.items ++ h ∷ [])
+        × (out.new.codes.items ≡ out.old.codes.items ++ fs)
+        × (state.new ≡ after_head place.now state.old h)
+        × (length out.new.codes.items ≡ length out.old.codes.items + h.frames)
+        × (8 ≤ h.frames))
+        (λ e. (block place.now known.now (record { force = state.old; so_far = length out.old.codes.items; due = due })).read r.old.all r.old.place ≡ Err e) }
+    ensures heads { OnOk result (count + 1 ≤ length out.new.blocks.items) }
+    ensures rest { out.new ≡ record out.old { blocks = out.new.blocks; codes = out.new.codes } }
+    ensures moved { OnOk result ((r.new.all ≡ r.old.all) × (r.old.place ≤ r.new.place)) }
+    ensures state { OnOk result (IfSome state.new (λ s. FitsPlace place.now.format place.now.unit_frames s)) }
+{
+    if count == out.blocks.len() {
+        out.blocks.push(BlockHead::default());
+    }
+    let head = &mut out.blocks[count];
+    read_block(place, known, due, state, r, head, &mut out.codes)
+}
+
+/// The fault of a block for which no frames are left.
+fn read_beyond(
+    place: &Place,
+    known: &Known,
+    due: bool,
+    state: &mut Option<State>,
+    r: &mut BitReader,
+    codes: &mut ArrayVec<FrameCode, 160>,
+) -> Result<(), Broken>
+    requires place { IsPlace place.now }
+    requires state { IfSome state.old (λ s. FitsPlace place.now.format place.now.unit_frames s) }
+    requires full { place.now.unit_frames < length codes.old.items + 8 }
+    ensures read { IfErr result (λ e. (block place.now known.now (record { force = state.old; so_far = length codes.old.items; due = due })).read r.old.all r.old.place ≡ Err e) }
+    ensures fails { IsErr result }
+{
+    let mut head = BlockHead::default();
+    read_block(place, known, due, state, r, &mut head, codes)
+}
+
+/// The blocks up to the last one. Their heads stand in place of those that are there.
 pub fn read_blocks(
     place: &Place,
     known: &Known,
@@ -90,7 +144,6 @@ pub fn read_blocks(
 ) -> Result<(), Broken>
     requires place { IsPlace place.now }
     requires state { IfSome state.old (λ s. FitsPlace place.now.format place.now.unit_frames s) }
-    requires blocks { out.old.blocks.items ≡ [] }
     requires codes { out.old.codes.items ≡ [] }
     ensures read { MatchResult result
         (λ _. (bs : List Block) × ((up_to_last (block place.now known.now) (after_block place.now) BlockOverrun most_blocks (record { force = state.old; so_far = 0; due = place.now.major })).read r.old.all r.old.place ≡ Ok (bs, r.new.place))
@@ -101,14 +154,14 @@ pub fn read_blocks(
     ensures state { OnOk result (IfSome state.new (λ s. FitsPlace place.now.format place.now.unit_frames s)) }
 {
     let mut due = place.major;
-    for _ in 0..21u32 {
-        let head = read_block(place, known, due, state, r, &mut out.codes)?;
-        out.blocks.push(head);
+    for count in 0..20usize {
+        read_block_behind(place, known, due, count, state, r, out)?;
         let last = flag(r)?;
         if last {
+            out.blocks.truncate(count + 1);
             return Ok(());
         }
         due = false;
     }
-    Err(broken(Field::BlockOverrun, r.place()))
+    read_beyond(place, known, due, state, r, &mut out.codes)
 }

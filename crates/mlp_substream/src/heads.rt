@@ -1,5 +1,5 @@
 //! Reading the head of a block, and putting in force what it gives. Source: the MLP substream syntax as publicly documented.
-ghost use Rattle.std.specs.Prelude.{◌≡◌, ◌≤◌, IfOk, IfSome, option_map};
+ghost use Rattle.std.specs.Prelude.{◌≡◌, ◌≤◌, IfOk, IfSome, OnOk, option_map};
 ghost use Rattle.mlp_layout.specs.Reading.{Gives};
 ghost use Rattle.mlp_layout.specs.Combined.{present};
 ghost use Rattle.mlp_params.specs.Allowed.{Allowed};
@@ -53,19 +53,24 @@ fn read_params_if(
     there: bool,
     state: &Option<State>,
     r: &mut BitReader,
-) -> Result<Option<Params>, Broken>
+    out: &mut Option<Params>,
+) -> Result<(), Broken>
     requires { IfSome state.now (λ s. IsState s) }
-    ensures read { Gives (λ x. x) r.old r.new result ((present there (against state.now params)).read r.old.all r.old.place) }
-    ensures allowed { IfOk result (λ o. IfSome o (λ p. IfSome state.now (λ s. Allowed (params s) p))) }
+    ensures read { Gives (λ _. out.new) r.old r.new result ((present there (against state.now params)).read r.old.all r.old.place) }
+    ensures allowed { OnOk result (IfSome out.new (λ p. IfSome state.now (λ s. Allowed (params s) p))) }
 {
     if !there {
-        return Ok(None);
+        // Where there are none, nothing of their size is written.
+        if out.is_some() {
+            *out = None;
+        }
+        return Ok(());
     }
     let Some(state) = state else {
         return Err(broken(Field::RestartMissing, r.place()));
     };
-    let params = read_params(state, r)?;
-    Ok(Some(params))
+    *out = Some(read_params(state, r)?);
+    Ok(())
 }
 
 /// Puts parameters in force.
@@ -97,22 +102,20 @@ pub fn read_head(
     due: bool,
     state: &mut Option<State>,
     r: &mut BitReader,
-) -> Result<BlockHead, Broken>
+    out: &mut BlockHead,
+) -> Result<(), Broken>
     requires place { IsPlace place.now }
     requires state { IfSome state.old (λ s. FitsPlace place.now.format place.now.unit_frames s) }
-    ensures read { Gives (λ x. x) r.old r.new result ((head place.now known.now due state.old).read r.old.all r.old.place) }
-    ensures force { IfOk result (λ h. state.new ≡ after_head place.now state.old h) }
-    ensures frames { IfOk result (λ h. h.frames ≡ block_size_in state.new) }
-    ensures state { IfOk result (λ h. IfSome state.new (λ s. FitsPlace place.now.format place.now.unit_frames s)) }
+    ensures read { Gives (λ _. out.new) r.old r.new result ((head place.now known.now due state.old).read r.old.all r.old.place) }
+    ensures force { OnOk result (state.new ≡ after_head place.now state.old out.new) }
+    ensures frames { OnOk result (out.new.frames ≡ block_size_in state.new) }
+    ensures state { OnOk result (IfSome state.new (λ s. FitsPlace place.now.format place.now.unit_frames s)) }
 {
     let (given, restarts) = read_flags(due, r)?;
-    let restart = read_restart_if(restarts, known, place.format, r)?;
-    restart_at(place, &restart, state);
-    let params = read_params_if(given, state, r)?;
-    apply_if(place, &params, state);
-    Ok(BlockHead {
-        restart,
-        params,
-        frames: block_size(state),
-    })
+    out.restart = read_restart_if(restarts, known, place.format, r)?;
+    restart_at(place, &out.restart, state);
+    read_params_if(given, state, r, &mut out.params)?;
+    apply_if(place, &out.params, state);
+    out.frames = block_size(state);
+    Ok(())
 }

@@ -25,7 +25,6 @@ fn read_fields(
     requires size { length bytes.now ≤ 8190 }
     requires place { IsPlace place.now }
     requires state { IfSome state.old (λ s. FitsPlace place.now.format place.now.unit_frames s) }
-    requires blocks { out.old.blocks.items ≡ [] }
     requires codes { out.old.codes.items ≡ [] }
     ensures read { MatchResult result
         (λ _. (whole_text (segment_tail place.now known.now (record { force = state.old; so_far = 0; due = place.now.major }) out.old.checked)).read (bits_of bytes.now) ≡ Ok out.new)
@@ -54,7 +53,6 @@ fn read_text(
     requires size { length bytes.now ≤ 8190 }
     requires place { IsPlace place.now }
     requires state { IfSome state.old (λ s. FitsPlace place.now.format place.now.unit_frames s) }
-    requires blocks { out.old.blocks.items ≡ [] }
     requires codes { out.old.codes.items ≡ [] }
     ensures read { MatchResult result
         (λ _. (segment_text place.now known.now state.old out.old.checked).read (bits_of bytes.now) ≡ Ok out.new)
@@ -110,7 +108,6 @@ pub fn read_segment_into(
     ensures force { OnOk result (state.new ≡ force_after place.now state.old out.new.blocks.items) }
     ensures state { OnOk result (IfSome state.new (λ s. FitsPlace place.now.format place.now.unit_frames s)) }
 {
-    out.blocks.clear();
     out.codes.clear();
     out.checked = checked;
     if !checked {
