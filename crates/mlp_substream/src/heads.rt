@@ -69,8 +69,13 @@ fn read_params_if(
     let Some(state) = state else {
         return Err(broken(Field::RestartMissing, r.place()));
     };
-    *out = Some(read_params(state, r)?);
-    Ok(())
+    match read_params(state, r) {
+        Ok(params) => {
+            *out = Some(params);
+            Ok(())
+        }
+        Err(fault) => Err(fault),
+    }
 }
 
 /// Puts parameters in force.
