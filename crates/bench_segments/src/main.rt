@@ -74,7 +74,7 @@ fn read(coding: &Coding, bytes: &[u8], times: u32) -> u32
 {
     let mut frames: ArrayVec<FrameCode, 160> = ArrayVec::new();
     for _ in 0..times {
-        frames = ArrayVec::new();
+        frames.clear();
         let mut r = BitReader::new(bytes);
         if read_coded(coding, 160, &mut r, &mut frames).is_err() {
             return 0;

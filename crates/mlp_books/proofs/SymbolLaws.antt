@@ -15,7 +15,7 @@ use Rattle.mlp_layout.specs.Layout.{Sound, IsLayout, made}
 use Rattle.mlp_bits.proofs.Peeking.{peeked-whole}
 use Rattle.mlp_layout.proofs.LayoutLaws.{made_is}
 use Rattle.mlp_books.specs.BookFacts.{counted1, counted2, counted3, passes1, passes2, passes3}
-use Rattle.mlp_books.specs.Books.{book1, book2, book3, code_of, begins, find_symbol, IsNone, IsBook, NoCode, IsCut, symbol_or_fault, symbol_of, symbol_in, entry, entry_of, entry_in}
+use Rattle.mlp_books.specs.Books.{book1, book2, book3, code_of, begins, find_symbol, IsNone, IsBook, NoCode, IsCut, symbol_or_fault, symbol_of, symbol_in, entry, entry_of, meaning, meaning_of, meaning_in}
 use Rattle.mlp_books.proofs.BookLaws.{begins-within, begins-take, begins-front, begins-cut, begins-uncut, begins-more, begins-less, find-none, none-begins, At, find-at, only-one, at-find, book_is}
 
 -- ---- a code stands where the text begins with it
@@ -223,74 +223,68 @@ module _ {book : List (List Bool)} (is : IsBook book) (c : Cursor) (e : ℕ) (e-
 
 -- ---- reading by nine bits that are there
 
--- what an entry says of a symbol of the book with this number
-pub record Ahead (book e : ℕ) (all : List Bool) (p : ℕ) : Type 0 where
-  pub some : (book ≡ 0) ⊎ (0 < e % 16) → (symbol_in book).read all p ≡ Ok (e / 16, p + e % 16)
-  pub none : 0 < book → e % 16 ≡ 0 → (symbol_in book).read all p ≡ Err (broken rule.Code p)
-  pub few : e % 16 ≤ 9
-  pub small : e / 16 < 18
+-- what nine bits say of a symbol of the book with this number
+pub record Ahead (book n : ℕ) (all : List Bool) (p : ℕ) : Type 0 where
+  pub some : n < 65535 → (symbol_in book).read all p ≡ Ok (n % 256, p + n / 256)
+  pub none : 65535 ≤ n → (symbol_in book).read all p ≡ Err (broken rule.Code p)
+  pub few : n < 65535 → n / 256 ≤ 9
 
-module _ {book : List (List Bool)} (is : IsBook book) (all : List Bool) (p nine e : ℕ) (there : p + 9 ≤ length all) (nine-is : nine ≡ number (take 9 (drop p all))) (e-is : e ≡ entry_of book (bits 9 nine)) where
+module _ {book : List (List Bool)} (is : IsBook book) (most : length book ≤ 18) (all : List Bool) (p k n : ℕ) (there : p + 9 ≤ length all) (k-is : k ≡ number (take 9 (drop p all))) (n-is : n ≡ meaning_of book (bits 9 k)) where
   abbrev cursor : Cursor
   cursor = record { all = all; place = p }
 
   room : 9 ≤ length (drop p all)
   room = omega (arith, length-drop p all)
 
-  by_peek : e ≡ entry_of book (bits 9 (peeked 9 cursor))
-  by_peek = e-is ∙ ap (λ (n : ℕ). entry_of book (bits 9 n)) (nine-is ∙ sym (peeked-whole 9 cursor room))
+  by_peek : entry_of book (bits 9 k) ≡ entry_of book (bits 9 (peeked 9 cursor))
+  by_peek = ap (λ (j : ℕ). entry_of book (bits 9 j)) (k-is ∙ sym (peeked-whole 9 cursor room))
 
-  few_bits : e % 16 ≤ 9
-  few_bits = (nine_says is cursor e by_peek).few
+  record Said : Type 0 where
+    some : n < 65535 → (symbol_of book).read all p ≡ Ok (n % 256, p + n / 256)
+    none : 65535 ≤ n → (symbol_of book).read all p ≡ Err (broken rule.Code p)
+    few : n < 65535 → n / 256 ≤ 9
 
-  one_symbol : 0 < e % 16 → ((symbol_of book).read all p ≡ Ok (e / 16, p + e % 16)) × (e / 16 < length book)
-  one_symbol h = reads_symbol is cursor e by_peek h (omega (arith, room, few_bits))
-
-  one_fault : e % 16 ≡ 0 → (symbol_of book).read all p ≡ Err (broken rule.Code p)
-  one_fault h = reads_none is cursor e by_peek h rule.Code (λ lt. absurd (omega (arith, lt, room))) (λ le. refl)
-
-  small_symbol : length book ≤ 18 → e / 16 < 18
-  small_symbol most = elim (cases_lt 0 (e % 16)) [
-    | inl lt ↦ let s = (one_symbol lt).1 in omega (arith, s, most)
-    | inr le ↦ no_entry (find_symbol book 0 (bits 9 nine)) refl (omega (arith, le))
-  ]
+  said : Said
+  said = go (find_symbol book 0 (bits 9 k)) refl n-is
     where
-      no_entry : (o : Option ℕ) → find_symbol book 0 (bits 9 nine) ≡ o → e % 16 ≡ 0 → e / 16 < 18
-      no_entry None f z = let k : e ≡ 0 = e-is ∙ ap (entry book) f in omega (arith, k)
-      no_entry (Some s) f z =
-          let a = find-at book (bits 9 nine) s f in
-          let k : e ≡ 16 * s + length (code_of book s) = e-is ∙ ap (entry book) f in
+      go : (o : Option ℕ) → find_symbol book 0 (bits 9 k) ≡ o → n ≡ meaning book (find_symbol book 0 (bits 9 k)) → Said
+      go None f g =
+          let z : n ≡ 65535 = g ∙ ap (meaning book) f in
+          let e : entry_of book (bits 9 k) ≡ 0 = ap (entry book) f in
+          record {
+            some = λ h. absurd (omega (arith, h, z));
+            none = λ h. reads_none is cursor (entry_of book (bits 9 k)) by_peek (omega (arith, e)) rule.Code (λ lt. absurd (omega (arith, lt, room))) (λ le. refl);
+            few = λ h. absurd (omega (arith, h, z));
+          }
+      go (Some s) f g =
+          let z : n ≡ s + 256 * length (code_of book s) = g ∙ ap (meaning book) f in
+          let e : entry_of book (bits 9 k) ≡ 16 * s + length (code_of book s) = ap (entry book) f in
+          let a = find-at book (bits 9 k) s f in
           let low = is.shortest s a.within in
           let high = is.longest s a.within in
-          absurd (omega (arith, z, k, low, high))
+          let small : s < 18 = omega (arith, a.within, most) in
+          let read = (reads_symbol is cursor (entry_of book (bits 9 k)) by_peek (omega (arith, e, low, high)) (omega (arith, e, low, high, room))).0 in
+          let symbol : entry_of book (bits 9 k) / 16 ≡ n % 256 = omega (arith, e, z, low, high, small) in
+          let width : entry_of book (bits 9 k) % 16 ≡ n / 256 = omega (arith, e, z, low, high, small) in
+          record {
+            some = λ h. rw (← symbol, ← width) read;
+            none = λ h. absurd (omega (arith, h, z, high, small));
+            few = λ h. omega (arith, z, high, small);
+          }
 
-wide : (book n : ℕ) → 0 < book → (book ≡ 0) ⊎ (0 < n) → 0 < n
-wide book n lt (inl z) = absurd (omega (arith, lt, z))
-wide book n lt (inr h) = h
-
-pub symbol_ahead : (book : ℕ) (all : List Bool) (p nine e : ℕ) → p + 9 ≤ length all → nine ≡ number (take 9 (drop p all)) → e ≡ entry_in book nine → Ahead book e all p
+pub symbol_ahead : (book : ℕ) (all : List Bool) (p k n : ℕ) → p + 9 ≤ length all → k ≡ number (take 9 (drop p all)) → n ≡ meaning_in book k → Ahead book n all p
 unfolding symbol_in made
-symbol_ahead zero all p nine e there nine-is e-is = record {
-  some = λ h. rw e-is (ap (λ (q : ℕ). Ok (0, q)) (omega arith));
-  none = λ h z. absurd (omega (arith, h));
-  few = omega (arith, e-is);
-  small = omega (arith, e-is);
+symbol_ahead zero all p k n there k-is n-is = record {
+  some = λ h. rw n-is (ap (λ (q : ℕ). Ok (0, q)) (omega arith));
+  none = λ h. absurd (omega (arith, h, n-is));
+  few = λ h. omega (arith, n-is);
 }
-symbol_ahead (suc zero) all p nine e there nine-is e-is = record {
-  some = λ h. (one_symbol (book_is passes1) all p nine e there nine-is e-is (wide 1 (e % 16) (omega arith) h)).0;
-  none = λ h. one_fault (book_is passes1) all p nine e there nine-is e-is;
-  few = few_bits (book_is passes1) all p nine e there nine-is e-is;
-  small = small_symbol (book_is passes1) all p nine e there nine-is e-is (omega (arith, counted1));
-}
-symbol_ahead (suc (suc zero)) all p nine e there nine-is e-is = record {
-  some = λ h. (one_symbol (book_is passes2) all p nine e there nine-is e-is (wide 2 (e % 16) (omega arith) h)).0;
-  none = λ h. one_fault (book_is passes2) all p nine e there nine-is e-is;
-  few = few_bits (book_is passes2) all p nine e there nine-is e-is;
-  small = small_symbol (book_is passes2) all p nine e there nine-is e-is (omega (arith, counted2));
-}
-symbol_ahead (suc (suc (suc book))) all p nine e there nine-is e-is = record {
-  some = λ h. (one_symbol (book_is passes3) all p nine e there nine-is e-is (wide (suc (suc (suc book))) (e % 16) (omega arith) h)).0;
-  none = λ h. one_fault (book_is passes3) all p nine e there nine-is e-is;
-  few = few_bits (book_is passes3) all p nine e there nine-is e-is;
-  small = small_symbol (book_is passes3) all p nine e there nine-is e-is (omega (arith, counted3));
-}
+symbol_ahead (suc zero) all p k n there k-is n-is =
+    let s = said (book_is passes1) (omega (arith, counted1)) all p k n there k-is n-is in
+    record { some = s.some; none = s.none; few = s.few }
+symbol_ahead (suc (suc zero)) all p k n there k-is n-is =
+    let s = said (book_is passes2) (omega (arith, counted2)) all p k n there k-is n-is in
+    record { some = s.some; none = s.none; few = s.few }
+symbol_ahead (suc (suc (suc book))) all p k n there k-is n-is =
+    let s = said (book_is passes3) (omega (arith, counted3)) all p k n there k-is n-is in
+    record { some = s.some; none = s.none; few = s.few }

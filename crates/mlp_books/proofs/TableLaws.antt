@@ -1,14 +1,15 @@
 -- What stands in the tables.
-use Rattle.std.proofs.Common.{◌≡◌, ℕ, zero, suc, [], ◌<◌, ◌≤◌, ◌^◌, Bool, List, length, get_or, map, refl, ap, ◌∙◌, arith}
+use Rattle.std.proofs.Common.{◌≡◌, ℕ, zero, suc, ◌<◌, ◌≤◌, ◌^◌, Bool, List, length, get_or, map, take, drop, refl, sym, ap, ◌∙◌, ◌+◌, ◌*◌, arith}
 use Rattle.std.specs.Prelude.{◌↔◌}
 use Rattle.std.specs.List.{range_with_len}
+use Rattle.std.proofs.lemmas.List.{get_or-drop, get_or-take}
 use Rattle.std.proofs.lemmas.List.FromFn.{get_or-map-range_with_len}
 use Rattle.mlp_bits.specs.Bits.{bits, number}
 use Rattle.mlp_bits.proofs.Fields.{number-below}
 use Rattle.mlp_layout.specs.Layout.{made}
 use Rattle.mlp_books.specs.BookFacts.{counted1, counted2, counted3}
-use Rattle.mlp_books.specs.Books.{book1, book2, book3, code_of, entry_of, entry_in, begins, find_symbol, symbol_of, symbol_in, Passes}
-use Rattle.mlp_books.specs.declared.tables.TheConstants.{PATTERNS1, PATTERNS2, PATTERNS3, WIDTHS0, WIDTHS1, WIDTHS2, WIDTHS3, ENTRIES, ENTRIES0, ENTRIES1, ENTRIES2, ENTRIES3}
+use Rattle.mlp_books.specs.Books.{book1, book2, book3, code_of, entry_of, meaning_of, meaning_in, begins, find_symbol, symbol_of, symbol_in, Passes}
+use Rattle.mlp_books.specs.declared.tables.TheConstants.{PATTERNS1, PATTERNS2, PATTERNS3, WIDTHS0, WIDTHS1, WIDTHS2, WIDTHS3, MEANINGS, ENTRIES1, ENTRIES2, ENTRIES3}
 use Rattle.mlp_books.proofs.BookLaws.{book_is}
 
 at_place : (xs : List ℕ) (f : ℕ → ℕ) (n : ℕ) → xs ≡ map f (range_with_len 0 n) → (i : ℕ) → i < n → get_or xs i 0 ≡ f i
@@ -90,29 +91,32 @@ pub fits3 : (s : ℕ) → (symbol_in 3).Fits s ↔ (s < 15)
 unfolding symbol_in symbol_of
 fits3 s = (λ h. omega (arith, counted3, h), λ h. omega (arith, counted3, h))
 
--- the entries by number of the book
-pub entries0 : (n : ℕ) → n < 512 → get_or ENTRIES0 n 0 ≡ entry_in 0 n
-entries0 = at_place ENTRIES0 (λ n. 0) 512 refl
+-- what nine bits say, by number of the book
+part_at : (f : ℕ → ℕ) (book : ℕ) → take 512 (drop (512 * book) MEANINGS) ≡ map f (range_with_len 0 512) → (n : ℕ) → n < 512 → get_or MEANINGS (512 * book + n) 0 ≡ f n
+part_at f book e n h =
+    sym (get_or-drop (512 * book) MEANINGS n 0) ∙ sym (get_or-take 512 (drop (512 * book) MEANINGS) n 0 h) ∙ at_place (take 512 (drop (512 * book) MEANINGS)) f 512 e n h
 
-pub entries1 : (n : ℕ) → n < 512 → get_or ENTRIES1 n 0 ≡ entry_in 1 n
-entries1 = entry1
+meanings0 : (n : ℕ) → n < 512 → get_or MEANINGS (512 * 0 + n) 0 ≡ meaning_in 0 n
+meanings0 = part_at (λ n. 0) 0 refl
 
-pub entries2 : (n : ℕ) → n < 512 → get_or ENTRIES2 n 0 ≡ entry_in 2 n
-entries2 = entry2
+meanings1 : (n : ℕ) → n < 512 → get_or MEANINGS (512 * 1 + n) 0 ≡ meaning_in 1 n
+unfolding book1 bits find_symbol begins
+meanings1 = part_at (λ n. meaning_of book1 (bits 9 n)) 1 refl
 
-pub entries3 : (n : ℕ) → n < 512 → get_or ENTRIES3 n 0 ≡ entry_in 3 n
-entries3 = entry3
+meanings2 : (n : ℕ) → n < 512 → get_or MEANINGS (512 * 2 + n) 0 ≡ meaning_in 2 n
+unfolding book2 bits find_symbol begins
+meanings2 = part_at (λ n. meaning_of book2 (bits 9 n)) 2 refl
 
-pub entries_by_number : (book : ℕ) → book ≤ 3 → (n : ℕ) → n < 512 → get_or (get_or ENTRIES book []) n 0 ≡ entry_in book n
-entries_by_number zero le = entries0
-entries_by_number (suc zero) le = entries1
-entries_by_number (suc (suc zero)) le = entries2
-entries_by_number (suc (suc (suc zero))) le = entries3
-entries_by_number (suc (suc (suc (suc book)))) le = absurd (omega (arith, le))
+meanings3 : (n : ℕ) → n < 512 → get_or MEANINGS (512 * 3 + n) 0 ≡ meaning_in 3 n
+unfolding book3 bits find_symbol begins
+meanings3 = part_at (λ n. meaning_of book3 (bits 9 n)) 3 refl
 
-pub entries_count : (book : ℕ) → book ≤ 3 → length (get_or ENTRIES book []) ≡ 512
-entries_count zero le = refl
-entries_count (suc zero) le = refl
-entries_count (suc (suc zero)) le = refl
-entries_count (suc (suc (suc zero))) le = refl
-entries_count (suc (suc (suc (suc book)))) le = absurd (omega (arith, le))
+pub meanings_by_number : (book n : ℕ) → book ≤ 3 → n < 512 → get_or MEANINGS (512 * book + n) 0 ≡ meaning_in book n
+meanings_by_number zero n le = meanings0 n
+meanings_by_number (suc zero) n le = meanings1 n
+meanings_by_number (suc (suc zero)) n le = meanings2 n
+meanings_by_number (suc (suc (suc zero))) n le = meanings3 n
+meanings_by_number (suc (suc (suc (suc book)))) n le = absurd (omega (arith, le))
+
+pub meanings_count : length MEANINGS ≡ 2048
+meanings_count = refl

@@ -110,12 +110,20 @@ entry book (Some s) = 16 * s + length (code_of book s)
 abbrev pub entry_of : List (List Bool) → List Bool → ℕ
 entry_of book text = entry book (find_symbol book 0 text)
 
--- .. in the book with this number; book 0 has none
-abbrev pub entry_in : ℕ → ℕ → ℕ
-entry_in zero nine = 0
-entry_in (suc zero) nine = entry_of book1 (bits 9 nine)
-entry_in (suc (suc zero)) nine = entry_of book2 (bits 9 nine)
-entry_in (suc (suc (suc book))) nine = entry_of book3 (bits 9 nine)
+-- a symbol, plus 256 times the width of its code; 65535 for none
+abbrev pub meaning : List (List Bool) → Option ℕ → ℕ
+meaning book None = 65535
+meaning book (Some s) = s + 256 * length (code_of book s)
+
+abbrev pub meaning_of : List (List Bool) → List Bool → ℕ
+meaning_of book text = meaning book (find_symbol book 0 text)
+
+-- .. in the book with this number; book 0 has the symbol 0 alone, whose code has no bits
+abbrev pub meaning_in : ℕ → ℕ → ℕ
+meaning_in zero n = 0
+meaning_in (suc zero) n = meaning_of book1 (bits 9 n)
+meaning_in (suc (suc zero)) n = meaning_of book2 (bits 9 n)
+meaning_in (suc (suc (suc book))) n = meaning_of book3 (bits 9 n)
 
 -- ---- the laws of a book as tests
 

@@ -1,13 +1,13 @@
 //! Reading and writing symbols.
-ghost use Rattle.std.specs.Prelude.{◌≡◌, ℕ, ◌+◌, ◌<◌, ◌≤◌, ◌^◌, ◌++◌, ◌↔◌, length, slice_index_or, Ok, IsErr, IfOk, OnOk, OnErr};
+ghost use Rattle.std.specs.Prelude.{◌≡◌, ℕ, ◌+◌, ◌*◌, ◌<◌, ◌≤◌, ◌^◌, ◌++◌, ◌↔◌, length, slice_index_or, Ok, IsErr, IfOk, OnOk, OnErr};
 ghost use Rattle.mlp_bits.specs.Cursor.{Cursor};
 ghost use Rattle.mlp_layout.specs.Reading.{Gives};
 ghost use Rattle.mlp_layout.specs.Layout.{made, number_of};
 ghost use Rattle.mlp_layout.specs.Writing.{Writes};
-ghost use Rattle.mlp_books.specs.Books.{code_of, symbol_of, symbol_in, entry_in, GivesSymbol};
+ghost use Rattle.mlp_books.specs.Books.{code_of, symbol_of, symbol_in, meaning_in, GivesSymbol};
 
 use crate::codebook::Codebook;
-use crate::tables::{Book1, Book2, Book3, ENTRIES, WIDTHS0, WIDTHS1, WIDTHS2, WIDTHS3};
+use crate::tables::{Book1, Book2, Book3, MEANINGS, WIDTHS0, WIDTHS1, WIDTHS2, WIDTHS3};
 use mlp_bits::{BitReader, BitWriter, Full};
 use mlp_layout::{broken, put_all, put_number};
 use mlp_syntax::{Broken, Field};
@@ -139,13 +139,13 @@ pub fn lengths_in(book: u8) -> &'static [u8]
     }
 }
 
-/// What each number of nine bits says of the book with this number: 16 times the symbol whose code they begin with, plus
-/// the code's width; 0 where they begin with none, and in book 0.
+/// What each number of nine bits says of each book, those of book b from 512 * b on: the symbol whose code they begin
+/// with, plus 256 times the code's width; 65535 where they begin with none. In book 0 each begins with the symbol 0,
+/// whose code has no bits.
 #[inline]
-pub fn entries_in(book: u8) -> &'static [u16]
-    requires { book ≤ 3 }
-    ensures count { length result.now ≡ 2 ^ 9 }
-    ensures each { (nine : ℕ) → nine < 2 ^ 9 → slice_index_or result.now nine 0 ≡ entry_in book nine }
+pub fn meanings() -> &'static [u16]
+    ensures count { length result.now ≡ 2048 }
+    ensures each { (book nine : ℕ) → book ≤ 3 → nine < 2 ^ 9 → slice_index_or result.now (512 * book + nine) 0 ≡ meaning_in book nine }
 {
-    &ENTRIES[book as usize]
+    &MEANINGS
 }

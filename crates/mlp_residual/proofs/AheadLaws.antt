@@ -1,18 +1,17 @@
 -- Codes read from words.
-use Rattle.std.proofs.Common.{◌≡◌, ℕ, zero, suc, ◌+◌, ◌*◌, ◌-◌, ◌/◌, ◌%◌, ◌^◌, ◌<◌, ◌≤◌, Bool, true, false, leb, List, [], ◌∷◌, ◌++◌, length, get_or, take, drop, Result, Ok, Err, refl, sym, ap, ◌∙◌, arith, append_assoc}
-use Rattle.std.proofs.lemmas.List.{length-drop, take_at, drop-drop, drop-append-le}
+use Rattle.std.proofs.Common.{◌≡◌, ℕ, ◌+◌, ◌*◌, ◌-◌, ◌/◌, ◌%◌, ◌^◌, ◌<◌, ◌≤◌, Bool, List, ◌++◌, length, get_or, take, drop, Ok, Err, refl, sym, ap, ◌∙◌, arith, append_assoc}
+use Rattle.std.proofs.lemmas.List.{take_at, drop-drop, drop-append-le}
 use Rattle.std.proofs.lemmas.Bool.{le-leb}
 use Rattle.std.proofs.lemmas.Nat.{mul-mod_first, mod-pow-add, pow-add, shr-shr}
 use Rattle.std.proofs.Math.Nat.{mod-lt, mul_assoc, mul-mod_left, mul-div_left, mul-add-div_right, div-eq_of_lt, div-div-eq-div-mul, div-lt_iff_lt-mul}
 use Rattle.std.proofs.Math.Pow.{pow_pos, pow_mono}
 use Rattle.mlp_syntax.specs.declared.fault.Broken.{Broken}
-use Rattle.mlp_syntax.specs.declared.segment.Code.{Code}
 use Rattle.mlp_bits.specs.Bits.{bits, bits_of, number}
 use Rattle.mlp_bits.proofs.BitLists.{bits-split, bits-drop, number-bits, length-bits, length-bits_of}
 use Rattle.mlp_bits.proofs.Fields.{number-take}
 use Rattle.mlp_layout.specs.Layout.{part, made, number_of}
 use Rattle.mlp_layout.specs.Reading.{number_at}
-use Rattle.mlp_books.specs.Books.{symbol_in, entry_in}
+use Rattle.mlp_books.specs.Books.{symbol_in, meaning_in}
 use Rattle.mlp_books.proofs.SymbolLaws.{Ahead, symbol_ahead}
 use Rattle.mlp_residual.specs.declared.frames.ChannelCode.{ChannelCode}
 use Rattle.mlp_residual.specs.Frames.{code}
@@ -67,25 +66,25 @@ window_field all rest p s o w n is le =
     ap (λ (j : ℕ). j / 2 / 2 ^ (63 - w)) both ∙ half ∙ down ∙ word_field all rest p (s + o) w n is (omega arith) ∙ ap (λ (j : ℕ). number (take w (drop j all))) there
 
 -- a field has no more bits than it was given
-pub field_small : (x w : ℕ) → w ≤ 32 → x < 2 ^ 64 → x / 2 / 2 ^ (63 - w) < 2 ^ 32
-field_small x w le lt =
-    let wide : 2 ^ 63 ≤ 2 ^ (32 + (63 - w)) = pow_mono {i = 63} {j = 32 + (63 - w)} (omega (arith, le)) in
-    let two : 2 ^ (32 + (63 - w)) ≡ 2 ^ 32 * 2 ^ (63 - w) = pow-add 2 32 (63 - w) in
-    (div-lt_iff_lt-mul (pow_pos (63 - w))).1 (omega (arith, wide, two, lt))
+pub field_small : (x down : ℕ) → 31 ≤ down → x < 2 ^ 64 → x / 2 / 2 ^ down < 2 ^ 32
+field_small x down le lt =
+    let wide : 2 ^ 31 ≤ 2 ^ down = pow_mono {i = 31} {j = down} le in
+    (div-lt_iff_lt-mul (pow_pos down)).1 (omega (arith, wide, lt))
 
 -- ---- codes
 
--- what an entry says of nine bits of a window
-pub entry_ahead : (book p nine e window : ℕ) (bytes entries : List ℕ) → p + 64 ≤ 8 * length bytes
+-- what nine bits of a window say
+pub meaning_ahead : (book first p nine n window : ℕ) (bytes meanings : List ℕ) → book ≤ 3 → first ≡ 512 * book → p + 64 ≤ 8 * length bytes
     → ((o w : ℕ) → o + w ≤ 56 → window * 2 ^ o % 2 ^ 64 / 2 / 2 ^ (63 - w) ≡ number (take w (drop (p + o) (bits_of bytes))))
-    → nine ≡ window * 2 ^ 0 % 2 ^ 64 / 2 / 2 ^ (63 - 9) → e ≡ get_or entries nine 0
-    → ((n : ℕ) → n < 2 ^ 9 → get_or entries n 0 ≡ entry_in book n) → Ahead book e (bits_of bytes) p
-entry_ahead book p nine e window bytes entries room fields nine-is e-is each =
+    → nine ≡ window * 2 ^ 0 % 2 ^ 64 / 2 / 2 ^ 54
+    → ((b k : ℕ) → b ≤ 3 → k < 2 ^ 9 → get_or meanings (512 * b + k) 0 ≡ meaning_in b k)
+    → (nine < 2 ^ 9) × (n ≡ get_or meanings (first + nine) 0 → Ahead book n (bits_of bytes) p)
+meaning_ahead book first p nine n window bytes meanings le first-is room fields nine-is each =
     let all = bits_of bytes in
     let there : p + 0 ≡ p = omega arith in
     let spelled : nine ≡ number (take 9 (drop p all)) = nine-is ∙ fields 0 9 (omega arith) ∙ ap (λ (k : ℕ). number (take 9 (drop k all))) there in
     let few : nine < 2 ^ 9 = rw spelled (number-take 9 (drop p all)) in
-    symbol_ahead book all p nine e (omega (arith, room, length-bits_of bytes)) spelled (e-is ∙ each nine few)
+    (few, λ n-is. symbol_ahead book all p nine n (omega (arith, room, length-bits_of bytes)) spelled (n-is ∙ ap (λ (k : ℕ). get_or meanings (k + nine) 0) first-is ∙ each book nine le few))
 
 pub code_reads : (c : ChannelCode) (all : List Bool) (p q s n : ℕ) → (symbol_in c.book).read all p ≡ Ok (s, q) → q + c.low ≤ length all → n ≡ number (take c.low (drop q all)) → (code c).read all p ≡ Ok (record { symbol = s; low = n }, q + c.low)
 unfolding code part made number_of number_at

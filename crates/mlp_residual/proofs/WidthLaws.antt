@@ -1,13 +1,12 @@
 -- Counting bits over several numbers of low bits.
-use Rattle.std.proofs.Common.{◌≡◌, ◌≢◌, ℕ, zero, suc, ◌+◌, ◌*◌, ◌/◌, ◌%◌, ◌<◌, ◌≤◌, ◌^◌, ℤ, pos, ◌+ℤ◌, ◌-ℤ◌, ◌*ℤ◌, Bool, true, false, List, [], ◌∷◌, length, map, drop, get_or, Option, Some, None, arith, refl, sym, ◌∙◌, ap, subst, inl, inr}
+use Rattle.std.proofs.Common.{◌≡◌, ◌≢◌, ℕ, zero, suc, ◌+◌, ◌*◌, ◌<◌, ◌^◌, ℤ, pos, ◌+ℤ◌, ◌-ℤ◌, ◌*ℤ◌, Bool, true, false, List, [], ◌∷◌, length, map, drop, get_or, Option, None, arith, refl, sym, ◌∙◌, ap, subst, inl, inr}
 use Rattle.std.specs.Prelude.{◌↔◌}
 use Rattle.std.proofs.Math.ListN.{get_or-map, set}
 use Rattle.std.proofs.lemmas.List.{drop_more, length-map, get_or-set_same, get_or-set_other}
 use Rattle.std.proofs.lemmas.Bool.{cases_lt}
 use Rattle.std.proofs.lemmas.Int.{ints}
 use Rattle.mlp_syntax.specs.declared.segment.Code.{Code}
-use Rattle.mlp_layout.specs.Layout.{made}
-use Rattle.mlp_books.specs.Books.{symbol_of, symbol_in}
+use Rattle.mlp_books.specs.Books.{symbol_in}
 use Rattle.mlp_books.proofs.TableLaws.{fits0, fits1, fits2, fits3}
 use Rattle.mlp_residual.specs.Coding.{symbols_of, below_of, Spells, TakeBits, Counts}
 use Rattle.mlp_residual.proofs.Codes.{place_of, spelled}

@@ -1,3 +1,4 @@
 pub mod Coding
 pub mod Frames
 pub mod Block
+pub mod Lookups

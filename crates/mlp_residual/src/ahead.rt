@@ -1,15 +1,16 @@
 //! Reading codes whose bits are all there, each from one word.
-ghost use Rattle.std.specs.Prelude.{◌≡◌, ℕ, ◌+◌, ◌*◌, ◌/◌, ◌%◌, ◌-◌, ◌^◌, ◌<◌, ◌≤◌, ◌++◌, ◌⊎◌, [], Ok, Err, All, IfSome, IfNone, MatchResult, true, false, length, take, drop};
+ghost use Rattle.std.specs.Prelude.{◌≡◌, ℕ, ◌+◌, ◌*◌, ◌/◌, ◌%◌, ◌-◌, ◌^◌, ◌<◌, ◌≤◌, ◌++◌, ◌⊎◌, [], Ok, Err, All, IfSome, IfNone, MatchResult, true, false, length, map, take, drop};
 ghost use Rattle.mlp_bits.specs.Bits.{bits, bits_of, number};
 ghost use Rattle.mlp_layout.specs.Reading.{broken};
 ghost use Rattle.mlp_layout.specs.Combined.{series};
 ghost use Rattle.mlp_syntax.specs.declared.fault.Field.TheVariants as rule;
+ghost use Rattle.mlp_residual.specs.Lookups.{channel_of, IsLookup};
 ghost use Rattle.mlp_residual.specs.Frames.{code, code_at, IsCoded};
 
 use crate::frames::ChannelCode;
 use arrayvec::ArrayVec;
 use mlp_bits::BitReader;
-use mlp_books::entries_in;
+use mlp_books::meanings;
 use mlp_layout::broken;
 use mlp_syntax::{Broken, Code, Field};
 
@@ -55,71 +56,103 @@ fn window_at(bytes: &[u8], place: u32) -> u64
     word_at(bytes, place as usize / 8) << (place % 8)
 }
 
-/// The number that `width` bits spell, behind the first `from` bits of a window.
+/// How the codes of a channel are looked up.
+#[derive(Clone, Copy, Debug, Default, PartialEq, Eq)]
+pub(crate) struct Lookup {
+    /// Where what nine bits say of the channel's book begins.
+    pub(crate) first: u32,
+    /// 63 less the number of low bits, which is how far they move down.
+    pub(crate) down: u32,
+}
+
+/// How the codes of this channel are looked up.
+fn lookup_of(channel: ChannelCode) -> Lookup
+    requires { IsCoded channel }
+    ensures channel { channel_of result ≡ channel }
+    ensures looked_up { IsLookup result }
+{
+    Lookup {
+        first: 512 * u32::from(channel.book),
+        down: 63 - u32::from(channel.low),
+    }
+}
+
+/// How the codes of the channels are looked up.
+pub(crate) fn lookups_of(channels: &[ChannelCode]) -> ArrayVec<Lookup, 8>
+    requires coded { All IsCoded channels.now }
+    requires count { length channels.now ≤ 8 }
+    ensures channels { map channel_of result.items ≡ channels.now }
+    ensures looked_up { All IsLookup result.items }
+{
+    let mut lookups = ArrayVec::new();
+    for channel in channels {
+        lookups.push(lookup_of(*channel));
+    }
+    lookups
+}
+
+/// The number that 63 - `down` bits spell, behind the first `from` bits of a window.
 #[inline]
-fn field(window: u64, from: u32, width: u32) -> u32
+fn field(window: u64, from: u32, down: u32) -> u32
     requires from { from ≤ 9 }
-    requires width { width ≤ 32 }
-    ensures { result ≡ window * 2 ^ from % 2 ^ 64 / 2 / 2 ^ (63 - width) }
+    requires most { 31 ≤ down }
+    requires least { down ≤ 63 }
+    ensures { result ≡ window * 2 ^ from % 2 ^ 64 / 2 / 2 ^ down }
 {
-    (((window << from) >> 1) >> (63 - width)) as u32
+    (((window << from) >> 1) >> down) as u32
 }
 
-/// Whether a symbol of so many bits is one: without a book it has none.
-#[inline]
-fn is_symbol(book: u8, width: u32) -> bool
-    ensures yes { result ≡ true → (book ≡ 0) ⊎ (0 < width) }
-    ensures no { result ≡ false → (0 < book) × (width ≡ 0) }
-{
-    width > 0 || book == 0
-}
+/// What nine bits say of a book where they begin with none of its codes.
+const NO_CODE: u16 = 65535;
 
-/// The code of a channel from a place on, and the place behind it. Where there is none, nine bits are no code there.
+/// The symbol and low bits of a channel from a place on, and the place behind them. Where there are none, nine bits are no
+/// code there.
 #[inline]
-fn code_ahead(channel: ChannelCode, bytes: &[u8], place: u32) -> Option<(Code, u32)>
-    requires coded { IsCoded channel }
+fn code_ahead(lookup: Lookup, bytes: &[u8], place: u32) -> Option<(u8, u32, u32)>
+    requires looked_up { IsLookup lookup }
     requires room { place + 64 ≤ 8 * length bytes.now }
     requires short { length bytes.now ≤ 8190 }
-    ensures some { IfSome result (λ x. (code channel).read (bits_of bytes.now) place ≡ Ok (x.0, x.1)) }
-    ensures behind { IfSome result (λ x. (place ≤ x.1) × (x.1 ≤ place + 40)) }
-    ensures none { IfNone result ((code channel).read (bits_of bytes.now) place ≡ Err (broken rule.Code place)) }
+    ensures some { IfSome result (λ x. (code (channel_of lookup)).read (bits_of bytes.now) place ≡ Ok (record { symbol = x.0; low = x.1 }, x.2)) }
+    ensures behind { IfSome result (λ x. (place ≤ x.2) × (x.2 ≤ place + 40)) }
+    ensures none { IfNone result ((code (channel_of lookup)).read (bits_of bytes.now) place ≡ Err (broken rule.Code place)) }
 {
     let window = window_at(bytes, place);
-    let entry = u32::from(entries_in(channel.book)[field(window, 0, 9) as usize]);
-    let width = entry % 16;
-    if !is_symbol(channel.book, width) {
+    let nine = field(window, 0, 54);
+    let meaning = meanings()[(lookup.first + nine) as usize];
+    if meaning == NO_CODE {
         return None;
     }
-    let low = field(window, width, u32::from(channel.low));
-    let code = Code {
-        symbol: (entry / 16) as u8,
+    let width = u32::from(meaning / 256);
+    let low = field(window, width, lookup.down);
+    Some((
+        (meaning % 256) as u8,
         low,
-    };
-    Some((code, place + width + u32::from(channel.low)))
+        place + width + (63 - lookup.down),
+    ))
 }
 
 /// The codes of the channels from a place on, and the place behind them.
 pub(crate) fn codes_ahead(
-    channels: &[ChannelCode],
+    lookups: &[Lookup],
     bytes: &[u8],
     place: u32,
     codes: &mut ArrayVec<Code, 8>,
 ) -> Result<u32, Broken>
-    requires coded { All IsCoded channels.now }
-    requires count { length channels.now ≤ 8 }
+    requires looked_up { All IsLookup lookups.now }
+    requires count { length lookups.now ≤ 8 }
     requires none { codes.old.items ≡ [] }
     requires room { place + 384 ≤ 8 * length bytes.now }
     requires short { length bytes.now ≤ 8190 }
     ensures read { MatchResult result
-        (λ end. (series (code_at channels.now) (length channels.now) []).read (bits_of bytes.now) place ≡ Ok (codes.new.items, end))
-        (λ e. (series (code_at channels.now) (length channels.now) []).read (bits_of bytes.now) place ≡ Err e) }
+        (λ end. (series (code_at (map channel_of lookups.now)) (length lookups.now) []).read (bits_of bytes.now) place ≡ Ok (codes.new.items, end))
+        (λ e. (series (code_at (map channel_of lookups.now)) (length lookups.now) []).read (bits_of bytes.now) place ≡ Err e) }
     ensures behind { MatchResult result (λ end. (place ≤ end) × (end ≤ place + 320)) (λ e. result ≡ Err e) }
 {
     let mut end = place;
-    for channel in channels {
-        match code_ahead(*channel, bytes, end) {
-            Some((code, behind)) => {
-                codes.push(code);
+    for lookup in lookups {
+        match code_ahead(*lookup, bytes, end) {
+            Some((symbol, low, behind)) => {
+                codes.push(Code { symbol, low });
                 end = behind;
             }
             None => return Err(broken(Field::Code, end)),

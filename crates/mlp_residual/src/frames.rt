@@ -6,9 +6,10 @@ ghost use Rattle.mlp_layout.specs.Combined.{flag, chosen, series};
 ghost use Rattle.mlp_layout.specs.Reading.{Gives, with_front};
 ghost use Rattle.mlp_bits.specs.Bits.{bits_of};
 ghost use Rattle.mlp_books.specs.Books.{symbol_in};
+ghost use Rattle.mlp_residual.specs.Lookups.{channel_of, IsLookup};
 ghost use Rattle.mlp_residual.specs.Frames.{bypass_bits, packed, code, code_at, frame, coded_frames, IsCoded, GivesBehind};
 
-use crate::ahead::{bytes_of, codes_ahead};
+use crate::ahead::{Lookup, bytes_of, codes_ahead, lookups_of};
 use arrayvec::ArrayVec;
 use mlp_bits::BitReader;
 use mlp_books::symbol_in;
@@ -101,12 +102,15 @@ fn codes_by_fields(
 #[inline]
 fn read_codes(
     channels: &[ChannelCode],
+    lookups: &[Lookup],
     bytes: &[u8],
     r: &mut BitReader,
     codes: &mut ArrayVec<Code, 8>,
 ) -> Result<(), Broken>
     requires coded { All IsCoded channels.now }
     requires count { length channels.now ≤ 8 }
+    requires channels { map channel_of lookups.now ≡ channels.now }
+    requires looked_up { All IsLookup lookups.now }
     requires none { codes.old.items ≡ [] }
     requires bits { 0 < length bytes.now → bits_of bytes.now ≡ r.old.all }
     requires short { length bytes.now ≤ 8190 }
@@ -116,27 +120,32 @@ fn read_codes(
     if place + 384 > bytes.len() as u32 * 8 {
         return codes_by_fields(channels, r, codes);
     }
-    let end = codes_ahead(channels, bytes, place, codes)?;
+    let end = codes_ahead(lookups, bytes, place, codes)?;
     r.skip(end - place);
     Ok(())
 }
 
-/// One frame.
+/// One frame, into an empty one.
 #[tactic(auto, unfolding(mlp_layout::specs::Layout::part, mlp_layout::specs::Layout::made, crate::specs::Frames::frame))]
 #[inline]
-fn read_frame(coding: &Coding, bytes: &[u8], r: &mut BitReader) -> Result<FrameCode, Broken>
+fn read_frame(
+    coding: &Coding,
+    lookups: &[Lookup],
+    bytes: &[u8],
+    r: &mut BitReader,
+    empty: &mut FrameCode,
+) -> Result<(), Broken>
     requires coded { All IsCoded coding.now.channels.items }
+    requires channels { map channel_of lookups.now ≡ coding.now.channels.items }
+    requires looked_up { All IsLookup lookups.now }
+    requires none { empty.old.codes.items ≡ [] }
     requires bits { 0 < length bytes.now → bits_of bytes.now ≡ r.old.all }
     requires short { length bytes.now ≤ 8190 }
-    ensures { Gives (λ x. x) r.old r.new result ((frame coding.now).read r.old.all r.old.place) }
+    ensures { Gives (λ _. empty.new) r.old r.new result ((frame coding.now).read r.old.all r.old.place) }
 {
-    let bypass = read_bypass(&coding.bypass, r)?;
-    let mut frame = FrameCode {
-        bypass,
-        codes: ArrayVec::new(),
-    };
-    read_codes(&coding.channels, bytes, r, &mut frame.codes)?;
-    Ok(frame)
+    empty.bypass = read_bypass(&coding.bypass, r)?;
+    read_codes(&coding.channels, lookups, bytes, r, &mut empty.codes)?;
+    Ok(())
 }
 
 /// Reads so many frames and appends them. A fault is `Code` or `SegmentShort` at the first place that has one; frames
@@ -153,8 +162,13 @@ pub fn read_coded(
     ensures read { GivesBehind out.old.items out.new.items r.old r.new result ((coded_frames coding.now frames).read r.old.all r.old.place) }
 {
     let bytes = bytes_of(r);
+    let lookups = lookups_of(&coding.channels);
     for _ in 0..frames {
-        let frame = read_frame(coding, bytes, r)?;
+        let mut frame = FrameCode {
+            bypass: 0,
+            codes: ArrayVec::new(),
+        };
+        read_frame(coding, &lookups, bytes, r, &mut frame)?;
         out.push(frame);
     }
     Ok(())

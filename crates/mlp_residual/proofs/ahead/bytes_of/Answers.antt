@@ -1,4 +1,4 @@
-use Rattle.std.proofs.Common.{◌≤◌, ◌+◌, ◌-◌, length, take, drop, ap, arith}
+use Rattle.std.proofs.Common.{◌+◌, ◌-◌, length, drop, ap, arith}
 use Rattle.std.proofs.lemmas.List.{length-take}
 use Rattle.mlp_bits.proofs.BitLists.{length-bits_of}
 use Rattle.mlp_residual.proofs.ahead.bytes_of.Goals as goal

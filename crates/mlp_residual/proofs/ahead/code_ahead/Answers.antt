@@ -1,38 +1,39 @@
-use Rattle.std.proofs.Common.{◌≡◌, ℕ, ◌+◌, ◌%◌, ◌≤◌, take, drop, ap, ◌∙◌, arith}
+use Rattle.std.proofs.Common.{◌≡◌, ℕ, ◌+◌, ◌*◌, ◌/◌, ◌%◌, ◌^◌, ◌-◌, sym, ◌≤◌, take, drop, ap, refl, ◌∙◌, arith}
 use Rattle.mlp_bits.specs.Bits.{bits_of, number}
 use Rattle.mlp_bits.proofs.BitLists.{length-bits_of}
-use Rattle.mlp_books.proofs.SymbolLaws.{Ahead}
-use Rattle.mlp_residual.proofs.AheadLaws.{entry_ahead, code_reads, code_fails}
+use Rattle.mlp_residual.specs.Lookups.{channel_of}
+use Rattle.mlp_residual.proofs.AheadLaws.{meaning_ahead, code_reads, code_fails}
 use Rattle.mlp_residual.proofs.ahead.code_ahead.Goals as goal
 
-pub returns-then-not-is_symbol-clause-none : goal.returns-then-not-is_symbol-clause-none
-returns-then-not-is_symbol-clause-none c =
-    let a = entry_ahead c.args.channel.book c.args.place c.field.result c.from-entry.result c.window_at-window.result c.args.bytes.now c.entries_in.result.now c.requires.room c.window_at-window.ensures c.field.ensures c.from-entry.ensures c.entries_in.ensures.each in
-    let no = c.is_symbol.ensures.no c.if-not-is_symbol.true in
-    code_fails c.args.channel (bits_of c.args.bytes.now) c.args.place _ (a.none no.0 no.1)
+pub returns-then-meaning-clause-none : goal.returns-then-meaning-clause-none
+returns-then-meaning-clause-none c =
+    let l = c.args.lookup in
+    let a = (meaning_ahead (l.first / 512) l.first c.args.place c.field-nine.result _ c.window_at-window.result c.args.bytes.now c.meanings.result.now c.requires.looked_up.book c.requires.looked_up.first c.requires.room c.window_at-window.ensures c.field-nine.ensures c.meanings.ensures.each).1 refl in
+    code_fails (channel_of l) (bits_of c.args.bytes.now) c.args.place _ (a.none (omega (arith, c.if-meaning.true)))
 
 pub field-low-requires-clause-from : goal.field-low-requires-clause-from
 field-low-requires-clause-from c =
-    let a = entry_ahead c.args.channel.book c.args.place c.field.result c.from-entry.result c.window_at-window.result c.args.bytes.now c.entries_in.result.now c.requires.room c.window_at-window.ensures c.field.ensures c.from-entry.ensures c.entries_in.ensures.each in
-    a.few
-
-pub overflow_cast-code : goal.overflow_cast-code
-overflow_cast-code c =
-    let a = entry_ahead c.args.channel.book c.args.place c.field.result c.from-entry.result c.window_at-window.result c.args.bytes.now c.entries_in.result.now c.requires.room c.window_at-window.ensures c.field.ensures c.from-entry.ensures c.entries_in.ensures.each in
-    record { fits = omega (arith, a.small) }
+    let l = c.args.lookup in
+    let a = (meaning_ahead (l.first / 512) l.first c.args.place c.field-nine.result _ c.window_at-window.result c.args.bytes.now c.meanings.result.now c.requires.looked_up.book c.requires.looked_up.first c.requires.room c.window_at-window.ensures c.field-nine.ensures c.meanings.ensures.each).1 refl in
+    rw c.from-width.ensures (a.few (omega arith))
 
 pub returns-clause-some : goal.returns-clause-some
 returns-clause-some c =
+    let l = c.args.lookup in
     let all = bits_of c.args.bytes.now in
     let p = c.args.place in
-    let ch = c.args.channel in
-    let width = c.from-entry.result % 16 in
-    let a = entry_ahead ch.book p c.field.result c.from-entry.result c.window_at-window.result c.args.bytes.now c.entries_in.result.now c.requires.room c.window_at-window.ensures c.field.ensures c.from-entry.ensures c.entries_in.ensures.each in
-    let low : c.field-low.result ≡ number (take ch.low (drop (p + width) all)) =
-    c.field-low.ensures ∙ c.window_at-window.ensures width c.from.result (omega (arith, a.few, c.from.ensures, c.requires.coded.1)) ∙ ap (λ (k : ℕ). number (take k (drop (p + width) all))) c.from.ensures in
-    rw c.from-2.ensures (code_reads ch all p (p + width) _ c.field-low.result (a.some (c.is_symbol.ensures.yes c.if-not-is_symbol.false)) (omega (arith, a.few, c.requires.coded.1, c.requires.room, length-bits_of c.args.bytes.now)) low)
+    let width = c.from-width.result in
+    let a = (meaning_ahead (l.first / 512) l.first p c.field-nine.result _ c.window_at-window.result c.args.bytes.now c.meanings.result.now c.requires.looked_up.book c.requires.looked_up.first c.requires.room c.window_at-window.ensures c.field-nine.ensures c.meanings.ensures.each).1 refl in
+    let is = a.some (omega arith) in
+    let few : width ≤ 9 = rw c.from-width.ensures (a.few (omega arith)) in
+    let back : 63 - (63 - l.down) ≡ l.down = omega (arith, c.requires.looked_up.least) in
+    let low : c.field-low.result ≡ number (take (63 - l.down) (drop (p + width) all)) =
+    c.field-low.ensures ∙ ap (λ (k : ℕ). c.window_at-window.result * 2 ^ width % 2 ^ 64 / 2 / 2 ^ k) (sym back) ∙ c.window_at-window.ensures width (63 - l.down) (omega (arith, few, c.requires.looked_up.most)) in
+    code_reads (channel_of l) all p (p + width) _ c.field-low.result (rw c.from-width.ensures is) (omega (arith, few, c.requires.looked_up.most, c.requires.room, length-bits_of c.args.bytes.now)) low
 
 pub returns-clause-behind : goal.returns-clause-behind
 returns-clause-behind c =
-    let a = entry_ahead c.args.channel.book c.args.place c.field.result c.from-entry.result c.window_at-window.result c.args.bytes.now c.entries_in.result.now c.requires.room c.window_at-window.ensures c.field.ensures c.from-entry.ensures c.entries_in.ensures.each in
-    (omega arith, omega (arith, a.few, c.from-2.ensures, c.requires.coded.1))
+    let l = c.args.lookup in
+    let a = (meaning_ahead (l.first / 512) l.first c.args.place c.field-nine.result _ c.window_at-window.result c.args.bytes.now c.meanings.result.now c.requires.looked_up.book c.requires.looked_up.first c.requires.room c.window_at-window.ensures c.field-nine.ensures c.meanings.ensures.each).1 refl in
+    let few : c.from-width.result ≤ 9 = rw c.from-width.ensures (a.few (omega arith)) in
+    (omega arith, omega (arith, few, c.requires.looked_up.most))

@@ -1,7 +1,7 @@
-use Rattle.std.proofs.Common.{◌≡◌, ℕ, ◌+◌, ◌^◌, ℤ, pos, ◌*ℤ◌, List, [], length, map, drop, get_or, to_z, of_z, w16, w64, arith, sym, subst, ◌∙◌}
+use Rattle.std.proofs.Common.{◌≡◌, ◌+◌, ℤ, pos, [], map, drop, get_or, to_z, of_z, w16, w64, arith, sym, subst, ◌∙◌}
 use Rattle.std.proofs.lemmas.Int.{ints, to_z-of_z}
 use Rattle.std.proofs.lemmas.List.{drop_all, length-map}
-use Rattle.mlp_residual.specs.Coding.{TakeBits, Counts}
+use Rattle.mlp_residual.specs.Coding.{TakeBits}
 use Rattle.mlp_residual.proofs.Counting.{counted_one, counted_never, counted_all}
 use Rattle.mlp_residual.proofs.WidthLaws.{Scale, stepped, value_takes, value_never, map_next}
 use Rattle.mlp_residual.proofs.widths.bits_of_values.Goals as goal

@@ -1,4 +1,4 @@
-use Rattle.std.proofs.Common.{ℕ, ℤ, ◌*◌, ◌≤◌, ◌^◌, pos, ◌*ℤ◌, drop, map}
+use Rattle.std.proofs.Common.{ℕ, ◌*◌, ◌≤◌, ◌^◌, pos, ◌*ℤ◌, drop, map}
 use Rattle.mlp_residual.proofs.Counting.{Counted}
 use Rattle.mlp_residual.proofs.widths.bits_of_values.Given as goal
 

@@ -1,4 +1,4 @@
-use Rattle.std.proofs.Common.{◌≡◌, ◌^◌, ℤ, pos, ◌*ℤ◌, map, to_z, of_z, w16, subst}
+use Rattle.std.proofs.Common.{◌≡◌, ℤ, map, to_z, of_z, w16, subst}
 use Rattle.std.proofs.lemmas.Int.{to_z-of_z}
 use Rattle.mlp_residual.specs.Coding.{Counts}
 use Rattle.mlp_residual.proofs.WidthLaws.{stepped}

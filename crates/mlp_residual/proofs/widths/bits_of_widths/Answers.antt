@@ -1,7 +1,7 @@
-use Rattle.std.proofs.Common.{◌≡◌, ℕ, ◌+◌, ℤ, Option, to_z, of_z, w16, ◌∙◌}
+use Rattle.std.proofs.Common.{ℕ, ◌+◌, ℤ, Option, to_z, of_z, w16, ◌∙◌}
 use Rattle.std.proofs.lemmas.List.{length-set}
 use Rattle.mlp_residual.specs.Coding.{Counts}
-use Rattle.mlp_residual.proofs.WidthLaws.{stepped, width_counts, filled_more}
+use Rattle.mlp_residual.proofs.WidthLaws.{width_counts, filled_more}
 use Rattle.mlp_residual.proofs.widths.bits_of_widths.Goals as goal
 
 pub loop-i-preserved : goal.loop-i-preserved
