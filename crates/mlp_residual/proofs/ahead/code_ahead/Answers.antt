@@ -15,7 +15,8 @@ pub field-low-requires-clause-from : goal.field-low-requires-clause-from
 field-low-requires-clause-from c =
     let l = c.args.lookup in
     let a = (meaning_ahead (l.first / 512) l.first c.args.place c.field-nine.result _ c.window_at-window.result c.args.bytes.now c.meanings.result.now c.requires.looked_up.book c.requires.looked_up.first c.requires.room c.window_at-window.ensures c.field-nine.ensures c.meanings.ensures.each).1 refl in
-    rw c.from-width.ensures (a.few (omega arith))
+    let few = a.few (omega arith) in
+    omega (arith, few, c.from-width.ensures)
 
 pub returns-clause-some : goal.returns-clause-some
 returns-clause-some c =
