@@ -1,6 +1,6 @@
 use crate::{
     BitReader, BitWriter, Full, Short, check8, check16, nibble_parity, restart_check,
-    segment_parity,
+    segment_parity, word_at,
 };
 
 /// A major sync of a stereo stream at 48 kHz, with its check.
@@ -48,6 +48,8 @@ fn fields_of_a_restart(rt: HostRuntime) {
     assert_eq!(rt; r.peek(16), 0xC5 << 5);
     assert_eq!(rt; r.take(12), Err(Short));
     assert_eq!(rt; r.place(), 181);
+    assert!(rt; r.bytes() == SEGMENT.as_slice());
+    assert!(rt; word_at(&SEGMENT, 16) == 0x988A_0400_8010_38C5);
     assert!(rt; r.left() == 11);
     r.skip(3);
     assert_eq!(rt; r.take_signed(8), Ok(-59));
