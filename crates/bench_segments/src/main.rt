@@ -1,40 +1,68 @@
-//! Writes the frames of a block, reads them so many times, and prints a sum of what is read.
+//! Writes a segment, reads it so many times, and prints a sum of its codes.
 #![tactic(auto)]
 
-ghost use Rattle.std.specs.Prelude.{◌≤◌, ◌<◌, ◌%◌, ◌≡◌, All, length};
-ghost use Rattle.mlp_residual.specs.Frames.{IsCoded};
+ghost use Rattle.std.specs.Prelude.{◌≤◌, length};
 
-use arrayvec::ArrayVec;
-use mlp_bits::{BitReader, BitWriter, Full};
+use mlp_bits::{BitWriter, Full, restart_check};
 use mlp_books::{Book1, Book2, Book3, write_symbol};
-use mlp_residual::{ChannelCode, Coding, read_coded};
-use mlp_syntax::FrameCode;
+use mlp_substream::{Known, Place, read_segment_into};
+use mlp_syntax::{FrameCode, Kind, Segment};
 use std::{env, io};
 
-/// So many channels, with the books in turn and this number of low bits.
-fn coding(channels: u32, low: u8) -> Coding
-    requires channels { channels ≤ 8 }
-    requires low { low ≤ 16 }
-    ensures { All IsCoded result.channels.items }
-{
-    let mut codes: ArrayVec<ChannelCode, 8> = ArrayVec::new();
-    for i in 0..channels {
-        codes.push(ChannelCode {
-            book: (i % 3) as u8 + 1,
-            low,
-        });
+/// The header of a restart of channels from 0 on, up to its check. All but their numbers is 0.
+fn put_header(channels: u32, w: &mut BitWriter) -> Result<(), Full> {
+    let greatest = channels.saturating_sub(1).min(7);
+    for (value, width) in [
+        (0x31EA, 14),
+        (0, 20),
+        (greatest, 4),
+        (greatest, 4),
+        (0, 27),
+        (0, 28),
+        (0, 16),
+    ] {
+        w.put(value, width)?;
     }
-    Coding {
-        bypass: ArrayVec::new(),
-        channels: codes,
+    for channel in 0..=greatest {
+        w.put(channel, 6)?;
     }
+    Ok(())
+}
+
+/// The check of the header: it is written by itself for that, up to a whole byte.
+fn check_of_header(channels: u32) -> Result<u32, Full> {
+    let mut w = BitWriter::new();
+    put_header(channels, &mut w)?;
+    let count = w.place();
+    w.put(0, (8 - count % 8) % 8)?;
+    if w.place() % 8 != 0 {
+        return Err(Full);
+    }
+    let bytes = w.bytes();
+    if bytes.len() < (count as usize).div_ceil(8) {
+        return Err(Full);
+    }
+    Ok(u32::from(restart_check(bytes, 0, count)))
+}
+
+/// The parameters: the block size, and of each channel the book and the number of low bits. The books come in turn.
+fn put_parameters(channels: u32, low: u32, frames: u32, w: &mut BitWriter) -> Result<(), Full> {
+    for (value, width) in [(0, 1), (1, 1), (frames.min(511), 9), (0, 3)] {
+        w.put(value, width)?;
+    }
+    for channel in 0..channels {
+        for (value, width) in [(1, 1), (0, 3), (channel % 3 + 1, 2), (low.min(31), 5)] {
+            w.put(value, width)?;
+        }
+    }
+    Ok(())
 }
 
 /// Writes a symbol near the middle of a book, and low bits, as a number gives them.
-fn put_code(channel: ChannelCode, number: u32, w: &mut BitWriter) -> Result<(), Full> {
-    let low = u32::from(channel.low).min(16);
+fn put_code(book: u32, low: u32, number: u32, w: &mut BitWriter) -> Result<(), Full> {
+    let low = low.min(16);
     let near = 4 + number % 4 + number / 16 % 4;
-    match channel.book {
+    match book {
         1 => write_symbol::<Book1>(near, w)?,
         2 => write_symbol::<Book2>(near, w)?,
         _ => write_symbol::<Book3>(near, w)?,
@@ -42,16 +70,27 @@ fn put_code(channel: ChannelCode, number: u32, w: &mut BitWriter) -> Result<(), 
     w.put(number / 256 % (1 << low), low)
 }
 
-/// Writes 160 frames, and zeros behind them up to a whole byte.
-fn put_frames(channels: &[ChannelCode], w: &mut BitWriter) -> Result<(), Full> {
+/// The frames of a block.
+fn put_frames(channels: u32, low: u32, frames: u32, w: &mut BitWriter) -> Result<(), Full> {
     let mut seed: u32 = 1;
-    for _ in 0..160 {
-        for channel in channels {
+    for _ in 0..frames {
+        for channel in 0..channels {
             seed = seed.wrapping_mul(1103515245).wrapping_add(12345);
-            put_code(*channel, seed / 256, w)?;
+            put_code(channel % 3 + 1, low, seed / 256, w)?;
         }
     }
-    w.put(0, (8 - w.place() % 8) % 8)
+    Ok(())
+}
+
+/// A segment of one block behind a restart.
+fn put_segment(channels: u32, low: u32, frames: u32, w: &mut BitWriter) -> Result<(), Full> {
+    w.put(3, 2)?;
+    put_header(channels, w)?;
+    w.put(check_of_header(channels)? % 256, 8)?;
+    put_parameters(channels, low, frames, w)?;
+    put_frames(channels, low, frames, w)?;
+    w.put(1, 1)?;
+    w.put(0, (16 - w.place() % 16) % 16)
 }
 
 /// A sum of the codes.
@@ -67,47 +106,53 @@ fn sum_of(frames: &[FrameCode]) -> u32 {
     sum
 }
 
-/// Reads 160 frames so many times, and sums the codes of the last time.
-fn read(coding: &Coding, bytes: &[u8], times: u32) -> u32
-    requires coded { All IsCoded coding.now.channels.items }
+/// Reads the segment of a unit of so many frames so many times into one record, and sums the codes of the last time.
+fn read(unit_frames: u16, bytes: &[u8], times: u32) -> u32
+    requires least { 8 ≤ unit_frames }
+    requires most { unit_frames ≤ 160 }
     requires bytes { length bytes.now ≤ 8190 }
 {
-    let mut frames: ArrayVec<FrameCode, 160> = ArrayVec::new();
+    let place = Place {
+        format: Kind::Fba,
+        unit_frames,
+        major: true,
+    };
+    let known = Known::default();
+    let mut segment = Segment::default();
     for _ in 0..times {
-        frames.clear();
-        let mut r = BitReader::new(bytes);
-        if read_coded(coding, 160, &mut r, &mut frames).is_err() {
+        let mut state = None;
+        if read_segment_into(&place, &known, &mut state, bytes, false, &mut segment).is_err() {
             return 0;
         }
     }
-    sum_of(&frames)
+    sum_of(&segment.codes)
 }
 
-fn run(channels: u32, low: u8, times: u32) -> u32
-    requires channels { channels ≤ 8 }
-    requires low { low ≤ 16 }
+fn run(channels: u32, low: u32, frames: u16, times: u32) -> u32
+    requires least { 8 ≤ frames }
+    requires most { frames ≤ 160 }
 {
-    let coding = coding(channels, low);
     let mut w = BitWriter::new();
-    if put_frames(&coding.channels, &mut w).is_err() || w.place() % 8 != 0 {
+    if put_segment(channels, low, u32::from(frames), &mut w).is_err() || w.place() % 8 != 0 {
         return 0;
     }
     let bytes = w.bytes();
     if bytes.len() > 8190 {
         return 0;
     }
-    read(&coding, bytes, times)
+    read(frames, bytes, times)
 }
 
 fn main(rt: HostRuntime) -> io::Result<()> {
     let words: Vec<String> = env::args(&rt)?.skip(1).collect(rt.alloc())?;
-    if words.len() < 3 {
-        println!(rt; "usage: CHANNELS LOW-BITS TIMES")?;
+    if words.len() < 4 {
+        println!(rt; "usage: CHANNELS LOW-BITS FRAMES TIMES")?;
         return Ok(());
     }
     let channels = words[0].parse::<u32>().unwrap_or(0).min(8);
-    let low = words[1].parse::<u8>().unwrap_or(0).min(16);
-    let times = words[2].parse::<u32>().unwrap_or(0);
-    println!(rt; "{}", run(channels, low, times))?;
+    let low = words[1].parse::<u32>().unwrap_or(0).min(16);
+    let frames = words[2].parse::<u16>().unwrap_or(0).max(8).min(160);
+    let times = words[3].parse::<u32>().unwrap_or(0);
+    println!(rt; "{}", run(channels, low, frames, times))?;
     Ok(())
 }

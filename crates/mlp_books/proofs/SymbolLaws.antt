@@ -15,7 +15,7 @@ use Rattle.mlp_layout.specs.Layout.{Sound, IsLayout, made}
 use Rattle.mlp_bits.proofs.Peeking.{peeked-whole}
 use Rattle.mlp_layout.proofs.LayoutLaws.{made_is}
 use Rattle.mlp_books.specs.BookFacts.{counted1, counted2, counted3, passes1, passes2, passes3}
-use Rattle.mlp_books.specs.Books.{book1, book2, book3, code_of, begins, find_symbol, IsNone, IsBook, NoCode, IsCut, symbol_or_fault, symbol_of, symbol_in, entry, entry_of, meaning, meaning_of, meaning_in}
+use Rattle.mlp_books.specs.Books.{book1, book2, book3, code_of, begins, find_symbol, IsNone, IsBook, NoCode, IsCut, symbol_or_fault, symbol_of, symbol_in, entry, entry_of, meaning, meaning_of, meaning_in, longest_in}
 use Rattle.mlp_books.proofs.BookLaws.{begins-within, begins-take, begins-front, begins-cut, begins-uncut, begins-more, begins-less, find-none, none-begins, At, find-at, only-one, at-find, book_is}
 
 -- ---- a code stands where the text begins with it
@@ -225,9 +225,9 @@ module _ {book : List (List Bool)} (is : IsBook book) (c : Cursor) (e : ℕ) (e-
 
 -- what nine bits say of a symbol of the book with this number
 pub record Ahead (book n : ℕ) (all : List Bool) (p : ℕ) : Type 0 where
-  pub some : n < 65535 → (symbol_in book).read all p ≡ Ok (n % 256, p + n / 256)
+  pub some : n < 65535 → (symbol_in book).read all p ≡ Ok (n / 256, p + n % 256)
   pub none : 65535 ≤ n → (symbol_in book).read all p ≡ Err (broken rule.Code p)
-  pub few : n < 65535 → n / 256 ≤ 9
+  pub few : n < 65535 → n % 256 ≤ longest_in book
 
 module _ {book : List (List Bool)} (is : IsBook book) (most : length book ≤ 18) (all : List Bool) (p k n : ℕ) (there : p + 9 ≤ length all) (k-is : k ≡ number (take 9 (drop p all))) (n-is : n ≡ meaning_of book (bits 9 k)) where
   abbrev cursor : Cursor
@@ -240,9 +240,9 @@ module _ {book : List (List Bool)} (is : IsBook book) (most : length book ≤ 18
   by_peek = ap (λ (j : ℕ). entry_of book (bits 9 j)) (k-is ∙ sym (peeked-whole 9 cursor room))
 
   record Said : Type 0 where
-    some : n < 65535 → (symbol_of book).read all p ≡ Ok (n % 256, p + n / 256)
+    some : n < 65535 → (symbol_of book).read all p ≡ Ok (n / 256, p + n % 256)
     none : 65535 ≤ n → (symbol_of book).read all p ≡ Err (broken rule.Code p)
-    few : n < 65535 → n / 256 ≤ 9
+    few : n < 65535 → n % 256 ≤ 9
 
   said : Said
   said = go (find_symbol book 0 (bits 9 k)) refl n-is
@@ -257,22 +257,23 @@ module _ {book : List (List Bool)} (is : IsBook book) (most : length book ≤ 18
             few = λ h. absurd (omega (arith, h, z));
           }
       go (Some s) f g =
-          let z : n ≡ s + 256 * length (code_of book s) = g ∙ ap (meaning book) f in
+          let z : n ≡ 256 * s + length (code_of book s) = g ∙ ap (meaning book) f in
           let e : entry_of book (bits 9 k) ≡ 16 * s + length (code_of book s) = ap (entry book) f in
           let a = find-at book (bits 9 k) s f in
           let low = is.shortest s a.within in
           let high = is.longest s a.within in
           let small : s < 18 = omega (arith, a.within, most) in
           let read = (reads_symbol is cursor (entry_of book (bits 9 k)) by_peek (omega (arith, e, low, high)) (omega (arith, e, low, high, room))).0 in
-          let symbol : entry_of book (bits 9 k) / 16 ≡ n % 256 = omega (arith, e, z, low, high, small) in
-          let width : entry_of book (bits 9 k) % 16 ≡ n / 256 = omega (arith, e, z, low, high, small) in
+          let symbol : entry_of book (bits 9 k) / 16 ≡ n / 256 = omega (arith, e, z, low, high, small) in
+          let width : entry_of book (bits 9 k) % 16 ≡ n % 256 = omega (arith, e, z, low, high, small) in
           record {
             some = λ h. rw (← symbol, ← width) read;
             none = λ h. absurd (omega (arith, h, z, high, small));
             few = λ h. omega (arith, z, high, small);
           }
 
-pub symbol_ahead : (book : ℕ) (all : List Bool) (p k n : ℕ) → p + 9 ≤ length all → k ≡ number (take 9 (drop p all)) → n ≡ meaning_in book k → Ahead book n all p
+-- the nine bits count where the book has codes
+pub symbol_ahead : (book : ℕ) (all : List Bool) (p k n : ℕ) → p + longest_in book ≤ length all → (0 < book → k ≡ number (take 9 (drop p all))) → n ≡ meaning_in book k → Ahead book n all p
 unfolding symbol_in made
 symbol_ahead zero all p k n there k-is n-is = record {
   some = λ h. rw n-is (ap (λ (q : ℕ). Ok (0, q)) (omega arith));
@@ -280,11 +281,11 @@ symbol_ahead zero all p k n there k-is n-is = record {
   few = λ h. omega (arith, n-is);
 }
 symbol_ahead (suc zero) all p k n there k-is n-is =
-    let s = said (book_is passes1) (omega (arith, counted1)) all p k n there k-is n-is in
+    let s = said (book_is passes1) (omega (arith, counted1)) all p k n there (k-is (omega arith)) n-is in
     record { some = s.some; none = s.none; few = s.few }
 symbol_ahead (suc (suc zero)) all p k n there k-is n-is =
-    let s = said (book_is passes2) (omega (arith, counted2)) all p k n there k-is n-is in
+    let s = said (book_is passes2) (omega (arith, counted2)) all p k n there (k-is (omega arith)) n-is in
     record { some = s.some; none = s.none; few = s.few }
 symbol_ahead (suc (suc (suc book))) all p k n there k-is n-is =
-    let s = said (book_is passes3) (omega (arith, counted3)) all p k n there k-is n-is in
+    let s = said (book_is passes3) (omega (arith, counted3)) all p k n there (k-is (omega arith)) n-is in
     record { some = s.some; none = s.none; few = s.few }

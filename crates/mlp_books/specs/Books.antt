@@ -110,10 +110,10 @@ entry book (Some s) = 16 * s + length (code_of book s)
 abbrev pub entry_of : List (List Bool) → List Bool → ℕ
 entry_of book text = entry book (find_symbol book 0 text)
 
--- a symbol, plus 256 times the width of its code; 65535 for none
+-- 256 times a symbol, plus the width of its code; 65535 for none
 abbrev pub meaning : List (List Bool) → Option ℕ → ℕ
 meaning book None = 65535
-meaning book (Some s) = s + 256 * length (code_of book s)
+meaning book (Some s) = 256 * s + length (code_of book s)
 
 abbrev pub meaning_of : List (List Bool) → List Bool → ℕ
 meaning_of book text = meaning book (find_symbol book 0 text)
@@ -124,6 +124,11 @@ meaning_in zero n = 0
 meaning_in (suc zero) n = meaning_of book1 (bits 9 n)
 meaning_in (suc (suc zero)) n = meaning_of book2 (bits 9 n)
 meaning_in (suc (suc (suc book))) n = meaning_of book3 (bits 9 n)
+
+-- how many bits the longest code of the book with this number has
+abbrev pub longest_in : ℕ → ℕ
+longest_in zero = 0
+longest_in (suc book) = 9
 
 -- ---- the laws of a book as tests
 

@@ -139,9 +139,9 @@ pub fn lengths_in(book: u8) -> &'static [u8]
     }
 }
 
-/// What each number of nine bits says of each book, those of book b from 512 * b on: the symbol whose code they begin
-/// with, plus 256 times the code's width; 65535 where they begin with none. In book 0 each begins with the symbol 0,
-/// whose code has no bits.
+/// What each number of nine bits says of each book, those of book b from 512 * b on: 256 times the symbol whose code they
+/// begin with, plus the code's width; 65535 where they begin with none. In book 0 each begins with the symbol 0, whose
+/// code has no bits.
 #[inline]
 pub fn meanings() -> &'static [u16]
     ensures count { length result.now ≡ 2048 }

@@ -1,9 +1,14 @@
 -- The frames are layouts.
-use Rattle.std.proofs.Common.{◌≡◌, ℕ, zero, suc, ◌+◌, ◌*◌, ◌-◌, ◌/◌, ◌%◌, ◌^◌, ◌<◌, Bool, true, false, cond, eqb, List, [], ◌∷◌, ◌++◌, length, Option, Some, Result, Ok, Err, refl, ap, arith, pow-suc}
+use Rattle.std.proofs.Common.{◌≡◌, ℕ, zero, suc, ◌+◌, ◌*◌, ◌-◌, ◌/◌, ◌%◌, ◌^◌, ◌<◌, Bool, true, false, cond, eqb, List, [], ◌∷◌, ◌++◌, length, Option, Some, Result, Ok, Err, refl, sym, ap, ◌∙◌, ◌≤◌, append_assoc, take, drop, arith, pow-suc}
 use Rattle.mlp_syntax.specs.declared.fault.Broken.{Broken}
-use Rattle.mlp_layout.specs.Reading.{Read, ◌>>=◌, with_front}
+use Rattle.mlp_layout.specs.Reading.{Read, ◌>>=◌, with_front, Gives}
 use Rattle.mlp_layout.specs.Layout.{Layout, IsLayout, part, item, made}
 use Rattle.arrayvec.specs.ArrayVec.{ArrayVec, array_vec_len}
+use Rattle.mlp_bits.specs.Cursor.{Cursor}
+use Rattle.std.proofs.Math.Seq.{take-append-add}
+use Rattle.std.proofs.lemmas.List.{length-append, length-take-le, length-take, length-drop, take_at, take-take}
+use Rattle.std.proofs.lemmas.Slice.{take-put_mid}
+use borrow.Rule.Slice.PartMut.{put_mid}
 use Rattle.mlp_layout.specs.Combined.{series, times}
 use Rattle.mlp_params.specs.Allowed.{Allowed}
 use Rattle.mlp_params.specs.Parameters.{listed}
@@ -14,7 +19,7 @@ use Rattle.mlp_books.proofs.SymbolLaws.{symbol_in_is}
 use Rattle.mlp_params.specs.declared.state.State.{State}
 use Rattle.mlp_residual.specs.declared.frames.ChannelCode.{ChannelCode}
 use Rattle.mlp_residual.specs.declared.frames.Coding.{Coding}
-use Rattle.mlp_residual.specs.Frames.{packed, unpacked, bypass_bit, bypass_bits, code, frame, coded_frames, frames_of}
+use Rattle.mlp_residual.specs.Frames.{packed, unpacked, bypass_bit, bypass_bits, code, frame, coded_frames, frames_of, GivesBehind}
 
 abbrev ok_of : {A : Type 0} → A → Result A Broken
 ok_of x = Ok x
@@ -140,3 +145,101 @@ times-length l (suc n) (x ∷ xs) fits = ap suc (times-length l n xs fits.1)
 pub listed-length : {A : Type 0} (l : Layout A) (n : ℕ) (v : ArrayVec A) → Allowed (listed n l) v → array_vec_len v ≡ n
 unfolding listed part
 listed-length l n v h = times-length l n v.items h.fits.0
+
+-- ---- some values after others
+
+-- with one value before
+abbrev one_before : {A : Type 0} → A × ℕ → Read (List A) → Read (List A)
+one_before x read = read >>= λ xs. ok_of (x.0 ∷ xs.0, xs.1)
+
+one_in_front : {A : Type 0} (x : A × ℕ) (ys : List A) (read : Read (List A)) → one_before x (with_front ys read) ≡ with_front (x.0 ∷ ys) read
+one_in_front x ys (Ok z) = refl
+one_in_front x ys (Err e) = refl
+
+-- so many values, and then others
+in_two : {A : Type 0} (l : Layout A) (n k : ℕ) (all : List Bool) (p : ℕ) → (series (λ _. l) (n + k) []).read all p ≡ ((series (λ _. l) n []).read all p >>= λ xs. with_front xs.0 ((series (λ _. l) k []).read all xs.1))
+unfolding series item made
+in_two l zero k all p =
+    let z : 0 + k ≡ k = omega arith in
+    ap (λ (i : ℕ). (series (λ _. l) i []).read all p) z ∙ sym (no_front ((series (λ _. l) k []).read all p))
+in_two l (suc n) k all p =
+    let s : suc n + k ≡ suc (n + k) = omega arith in
+    ap (λ (i : ℕ). (series (λ _. l) i []).read all p) s ∙ go (l.read all p) (λ q. in_two l n k all q)
+  where
+    later : (x : _ × ℕ) (s : Read (List _)) → one_before x (s >>= λ ys. with_front ys.0 ((series (λ _. l) k []).read all ys.1)) ≡ (one_before x s >>= λ ys. with_front ys.0 ((series (λ _. l) k []).read all ys.1))
+    later x (Ok ys) = one_in_front x ys.0 ((series (λ _. l) k []).read all ys.1)
+    later x (Err e) = refl
+
+    go : (r : Read _) → ((q : ℕ) → (series (λ _. l) (n + k) []).read all q ≡ ((series (λ _. l) n []).read all q >>= λ xs. with_front xs.0 ((series (λ _. l) k []).read all xs.1)))
+        → (r >>= λ x. one_before x ((series (λ _. l) (n + k) (x.0 ∷ [])).read all x.1)) ≡ ((r >>= λ x. one_before x ((series (λ _. l) n (x.0 ∷ [])).read all x.1)) >>= λ ys. with_front ys.0 ((series (λ _. l) k []).read all ys.1))
+    go (Ok x) more =
+        let whole : (series (λ _. l) (n + k) (x.0 ∷ [])).read all x.1 ≡ ((series (λ _. l) n []).read all x.1 >>= λ xs. with_front xs.0 ((series (λ _. l) k []).read all xs.1)) = same_before l (n + k) (x.0 ∷ []) [] all x.1 ∙ more x.1 in
+        let some = same_before l n (x.0 ∷ []) [] all x.1 in
+        ap (one_before x) whole ∙ (later x ((series (λ _. l) n []).read all x.1) ∙ ap (λ (r : Read (List _)). one_before x r >>= λ ys. with_front ys.0 ((series (λ _. l) k []).read all ys.1)) (sym some))
+    go (Err e) more = refl
+
+fronts : {A : Type 0} (front xs : List A) (read : Read (List A)) → with_front front (with_front xs read) ≡ with_front (front ++ xs) read
+fronts front xs (Ok ys) = ap (λ (zs : List _). ok_of (zs, ys.1)) (sym (append_assoc front xs ys.0))
+fronts front xs (Err e) = refl
+
+-- a loop reads several at once
+pub series_appends : {A : Type 0} (l : Layout A) (n m : ℕ) (front xs : List A) (all : List Bool) (p q : ℕ) (total : Read (List A)) → n ≤ m → (series (λ _. l) n []).read all p ≡ Ok (xs, q)
+    → SeriesContinues (λ _. l) m front all p total → SeriesContinues (λ _. l) (m - n) (front ++ xs) all q total
+series_appends l n m front xs all p q total le h so_far =
+    let k : m ≡ n + (m - n) = omega arith in
+    let rest = (series (λ _. l) (m - n) []).read all q in
+    let two : (series (λ _. l) (n + (m - n)) []).read all p ≡ with_front xs rest = in_two l n (m - n) all p ∙ rw h refl in
+    let whole : (series (λ _. l) m front).read all p ≡ with_front xs rest = same_before l m front [] all p ∙ (ap (λ (i : ℕ). (series (λ _. l) i []).read all p) k ∙ two) in
+    ap (with_front (front ++ xs)) (same_before l (m - n) (front ++ xs) [] all q) ∙ (sym (fronts front xs rest) ∙ (ap (with_front front) (sym whole) ∙ so_far))
+
+-- .. or finds a fault among them
+pub series_breaks : {A : Type 0} (l : Layout A) (n m : ℕ) (front : List A) (all : List Bool) (p : ℕ) (e : Broken) (total : Read (List A)) → n ≤ m → (series (λ _. l) n []).read all p ≡ Err e
+    → SeriesContinues (λ _. l) m front all p total → total ≡ Err e
+series_breaks l n m front all p e total le h so_far =
+    let k : m ≡ n + (m - n) = omega arith in
+    let two : (series (λ _. l) (n + (m - n)) []).read all p ≡ Err e = in_two l n (m - n) all p ∙ rw h refl in
+    let whole : (series (λ _. l) m front).read all p ≡ Err e = same_before l m front [] all p ∙ (ap (λ (i : ℕ). (series (λ _. l) i []).read all p) k ∙ two) in
+    sym so_far ∙ ap (with_front front) whole
+
+-- one value alone
+pub one_is_read : {A : Type 0} (l : Layout A) (x : A) (all : List Bool) (p q : ℕ) → l.read all p ≡ Ok (x, q) → (series (λ _. l) 1 []).read all p ≡ Ok (x ∷ [], q)
+unfolding series item made
+one_is_read l x all p q h = rw h refl
+
+-- the first of several fails
+pub first_fails : {A : Type 0} (l : Layout A) (n : ℕ) (all : List Bool) (p : ℕ) (e : Broken) → 0 < n → l.read all p ≡ Err e → (series (λ _. l) n []).read all p ≡ Err e
+unfolding series item
+first_fails l zero all p e h fails = absurd (omega arith)
+first_fails l (suc n) all p e h fails = rw fails refl
+
+-- none
+pub none_is_read : {A : Type 0} (l : Layout A) (all : List Bool) (p : ℕ) → (series (λ _. l) 0 []).read all p ≡ Ok ([], p)
+unfolding series made
+none_is_read l all p = refl
+
+-- ---- values in place of others
+
+-- the first of a part that was written behind the values before it
+pub some_in_place : {A : Type 0} (a k n : ℕ) (xs ys : List A) → a ≤ length xs → n ≤ length ys → take (a + n) (put_mid a k xs ys) ≡ take a xs ++ take n ys
+some_in_place a k n xs ys le few =
+    let count : length (take a xs) ≡ a = length-take-le a xs le in
+    let inner : take (a + n) (take (a + length ys) (put_mid a k xs ys)) ≡ take (a + n) (put_mid a k xs ys) = take-take (a + n) (a + length ys) (put_mid a k xs ys) (omega arith) in
+    let whole : take (a + length ys) (put_mid a k xs ys) ≡ take a xs ++ ys = take-put_mid a k xs ys (a + length ys) refl le in
+    let some : take (length (take a xs) + n) (take a xs ++ ys) ≡ take a xs ++ take n ys = take-append-add (take a xs) ys n in
+    sym inner ∙ (ap (take (a + n)) whole ∙ (ap (λ (i : ℕ). take (i + n) (take a xs ++ ys)) (sym count) ∙ some))
+
+-- a part written into a list leaves its length
+pub length_in_place : {A : Type 0} (a k : ℕ) (xs ys : List A) → a + k ≤ length xs → length ys ≡ k → length (put_mid a k xs ys) ≡ length xs
+length_in_place a k xs ys le count = simp (length-append, length-drop, length-take) (omega arith)
+
+-- a list that was written back into one as long
+pub written_back : {A : Type 0} (xs ys : List A) → length ys ≡ length xs → take (length xs) (ys ++ drop (length ys) xs) ≡ ys
+written_back xs ys h = take_at ys (drop (length ys) xs) (length xs) h
+
+-- what was read in place of others stands behind those before them
+pub stands_behind : {A : Type 0} (front xs after : List A) (n m : ℕ) (l : ℕ → Layout (List A)) (old new : Cursor) (r : Result (Unit {0}) Broken) → n ≡ m → after ≡ front ++ xs
+    → Gives (λ _. xs) old new r ((l n).read old.all old.place) → GivesBehind front after old new r ((l m).read old.all old.place)
+stands_behind front xs after n m l old new (Ok x) same is gives =
+    let read : (l m).read old.all old.place ≡ Ok (xs, new.place) = ap (λ (i : ℕ). (l i).read old.all old.place) (sym same) ∙ gives.0 in
+    (ap (with_front front) read ∙ ap (λ (ys : List _). ok_of (ys, new.place)) (sym is), gives.1, gives.2)
+stands_behind front xs after n m l old new (Err e) same is gives = ap (λ (i : ℕ). (l i).read old.all old.place) (sym same) ∙ gives

@@ -5,3 +5,4 @@ pub mod FrameWriting
 pub mod StepLaws
 pub mod WidthLaws
 pub mod AheadLaws
+pub mod RunLaws

@@ -1,15 +1,15 @@
 //! Reading the frames of a block.
-ghost use Rattle.std.specs.Prelude.{◌≡◌, ◌+◌, ◌≤◌, ◌<◌, ◌^◌, ◌++◌, [], Ok, All, IfOk, OnOk, IsTrue, length, map, drop, false, if◌then◌else◌};
+ghost use Rattle.std.specs.Prelude.{◌≡◌, ◌+◌, ◌*◌, ◌≤◌, ◌<◌, ◌^◌, [], Ok, All, IfOk, OnOk, Err, MatchResult, length, map, take, drop, false, if◌then◌else◌};
 ghost use Rattle.arrayvec.specs.ArrayVec.{array_vec_len};
-ghost use Rattle.mlp_layout.specs.Layout.{Layout, made, part, number_of};
+ghost use Rattle.mlp_layout.specs.Layout.{Layout, made, part};
 ghost use Rattle.mlp_layout.specs.Combined.{flag, chosen, series};
-ghost use Rattle.mlp_layout.specs.Reading.{Gives, with_front};
-ghost use Rattle.mlp_bits.specs.Bits.{bits_of};
+ghost use Rattle.mlp_layout.specs.Reading.{Gives};
 ghost use Rattle.mlp_books.specs.Books.{symbol_in};
-ghost use Rattle.mlp_residual.specs.Lookups.{channel_of, IsLookup};
-ghost use Rattle.mlp_residual.specs.Frames.{bypass_bits, packed, code, code_at, frame, coded_frames, IsCoded, GivesBehind};
+ghost use Rattle.mlp_residual.specs.Lookups.{AreLookups};
+ghost use Rattle.mlp_residual.specs.Frames.{bypass_bits, code, code_at, frame, coded_frames, IsCoded, GivesBehind};
 
-use crate::ahead::{Lookup, bytes_of, codes_ahead, lookups_of};
+use crate::ahead::{Lookups, codes_near_end, lookups_of};
+use crate::runs::frames_ahead;
 use arrayvec::ArrayVec;
 use mlp_bits::BitReader;
 use mlp_books::symbol_in;
@@ -84,92 +84,146 @@ fn read_code(channel: ChannelCode, r: &mut BitReader) -> Result<Code, Broken>
 fn codes_by_fields(
     channels: &[ChannelCode],
     r: &mut BitReader,
-    codes: &mut ArrayVec<Code, 8>,
+    codes: &mut [Code],
 ) -> Result<(), Broken>
     requires coded { All IsCoded channels.now }
-    requires count { length channels.now ≤ 8 }
-    requires none { codes.old.items ≡ [] }
-    ensures { Gives (λ _. codes.new.items) r.old r.new result ((series (code_at channels.now) (length channels.now) []).read r.old.all r.old.place) }
+    requires same { length codes.old ≡ length channels.now }
+    ensures { Gives (λ _. codes.new) r.old r.new result ((series (code_at channels.now) (length channels.now) []).read r.old.all r.old.place) }
 {
-    for channel in channels {
-        let code = read_code(*channel, r)?;
-        codes.push(code);
+    for i in 0..channels.len() {
+        codes[i] = read_code(channels[i], r)?;
     }
     Ok(())
 }
 
-/// The codes of the channels, from words unless the end is near.
+/// The codes of the channels, from words unless the bits that are left may not be enough.
 #[inline]
 fn read_codes(
     channels: &[ChannelCode],
-    lookups: &[Lookup],
-    bytes: &[u8],
+    lookups: &Lookups,
     r: &mut BitReader,
-    codes: &mut ArrayVec<Code, 8>,
+    codes: &mut [Code],
 ) -> Result<(), Broken>
     requires coded { All IsCoded channels.now }
-    requires count { length channels.now ≤ 8 }
-    requires channels { map channel_of lookups.now ≡ channels.now }
-    requires looked_up { All IsLookup lookups.now }
-    requires none { codes.old.items ≡ [] }
-    requires bits { 0 < length bytes.now → bits_of bytes.now ≡ r.old.all }
-    requires short { length bytes.now ≤ 8190 }
-    ensures { Gives (λ _. codes.new.items) r.old r.new result ((series (code_at channels.now) (length channels.now) []).read r.old.all r.old.place) }
+    requires lookups { AreLookups channels.now lookups.now }
+    requires same { length codes.old ≡ length channels.now }
+    ensures { Gives (λ _. codes.new) r.old r.new result ((series (code_at channels.now) (length channels.now) []).read r.old.all r.old.place) }
 {
     let place = r.place();
-    if place + 384 > bytes.len() as u32 * 8 {
+    let bytes = r.bytes();
+    if bytes.len() < 8 {
         return codes_by_fields(channels, r, codes);
     }
-    let end = codes_ahead(lookups, bytes, place, codes)?;
+    if place as usize + lookups.most as usize >= bytes.len() * 8 {
+        return codes_by_fields(channels, r, codes);
+    }
+    let end = codes_near_end(&lookups.channels, bytes, place, codes)?;
     r.skip(end - place);
     Ok(())
 }
 
-/// One frame, into an empty one.
+/// Makes room for so many codes, whatever they are.
+#[cold]
+#[inline(never)]
+fn make_room(count: usize, codes: &mut ArrayVec<Code, 8>)
+    requires { count ≤ 8 }
+    ensures { length codes.new.items ≡ count }
+{
+    codes.clear();
+    for _ in 0..count {
+        codes.push(Code { symbol: 0, low: 0 });
+    }
+}
+
+/// One frame, in place of another.
 #[tactic(auto, unfolding(mlp_layout::specs::Layout::part, mlp_layout::specs::Layout::made, crate::specs::Frames::frame))]
-#[inline]
 fn read_frame(
     coding: &Coding,
-    lookups: &[Lookup],
-    bytes: &[u8],
+    lookups: &Lookups,
     r: &mut BitReader,
-    empty: &mut FrameCode,
+    out: &mut FrameCode,
 ) -> Result<(), Broken>
     requires coded { All IsCoded coding.now.channels.items }
-    requires channels { map channel_of lookups.now ≡ coding.now.channels.items }
-    requires looked_up { All IsLookup lookups.now }
-    requires none { empty.old.codes.items ≡ [] }
-    requires bits { 0 < length bytes.now → bits_of bytes.now ≡ r.old.all }
-    requires short { length bytes.now ≤ 8190 }
-    ensures { Gives (λ _. empty.new) r.old r.new result ((frame coding.now).read r.old.all r.old.place) }
+    requires lookups { AreLookups coding.now.channels.items lookups.now }
+    ensures { Gives (λ _. out.new) r.old r.new result ((frame coding.now).read r.old.all r.old.place) }
 {
-    empty.bypass = read_bypass(&coding.bypass, r)?;
-    read_codes(&coding.channels, lookups, bytes, r, &mut empty.codes)?;
+    if out.codes.len() != coding.channels.len() {
+        make_room(coding.channels.len(), &mut out.codes);
+    }
+    out.bypass = read_bypass(&coding.bypass, r)?;
+    read_codes(&coding.channels, lookups, r, out.codes.as_mut_slice())
+}
+
+/// Some of the frames, at least one, in place of others: how many.
+fn read_some(
+    coding: &Coding,
+    lookups: &Lookups,
+    r: &mut BitReader,
+    out: &mut [FrameCode],
+) -> Result<usize, Broken>
+    requires coded { All IsCoded coding.now.channels.items }
+    requires lookups { AreLookups coding.now.channels.items lookups.now }
+    requires some { 0 < length out.old }
+    ensures some { IfOk result (λ n. (0 < n) × (n ≤ length out.old)) }
+    ensures moved { OnOk result ((r.new.all ≡ r.old.all) × (r.old.place ≤ r.new.place)) }
+    ensures read { MatchResult result
+        (λ n. (coded_frames coding.now n).read r.old.all r.old.place ≡ Ok (take n out.new, r.new.place))
+        (λ e. (coded_frames coding.now (length out.old)).read r.old.all r.old.place ≡ Err e) }
+{
+    let place = r.place();
+    let (count, end) = frames_ahead(coding, lookups, r.bytes(), place, out)?;
+    if count > 0 {
+        r.skip(end - place);
+        return Ok(count);
+    }
+    read_frame(coding, lookups, r, &mut out[0])?;
+    Ok(1)
+}
+
+/// The frames, in place of as many others.
+fn read_over(coding: &Coding, r: &mut BitReader, out: &mut [FrameCode]) -> Result<(), Broken>
+    requires coded { All IsCoded coding.now.channels.items }
+    ensures { Gives (λ _. out.new) r.old r.new result ((coded_frames coding.now (length out.old)).read r.old.all r.old.place) }
+{
+    let lookups = lookups_of(&coding.channels);
+    let mut done = 0;
+    while done < out.len() {
+        done += read_some(coding, &lookups, r, &mut out[done..])?;
+    }
     Ok(())
 }
 
-/// Reads so many frames and appends them. A fault is `Code` or `SegmentShort` at the first place that has one; frames
-/// before it may then have been appended.
+/// Appends blank frames until there are so many.
+fn fill_up(count: usize, out: &mut ArrayVec<FrameCode, 160>)
+    requires { count ≤ 160 }
+    ensures kept { take (length out.old.items) out.new.items ≡ out.old.items }
+    ensures enough { count ≤ length out.new.items }
+    ensures rest { drop count out.new.items ≡ drop count out.old.items }
+{
+    while out.len() < count {
+        out.push(FrameCode::default());
+    }
+}
+
+/// Reads so many frames behind the first `first` of those in `out`, in place of others or appended to them.
+///
+/// A fault is `Code` or `SegmentShort` at the first place that has one; what stands behind the first `first` is of no use
+/// then.
 pub fn read_coded(
     coding: &Coding,
+    first: usize,
     frames: u16,
     r: &mut BitReader,
     out: &mut ArrayVec<FrameCode, 160>,
 ) -> Result<(), Broken>
     requires coded { All IsCoded coding.now.channels.items }
-    requires room { array_vec_len out.old + frames ≤ 160 }
-    ensures count { OnOk result (length out.new.items ≡ length out.old.items + frames) }
-    ensures read { GivesBehind out.old.items out.new.items r.old r.new result ((coded_frames coding.now frames).read r.old.all r.old.place) }
+    requires first { first ≤ array_vec_len out.old }
+    requires room { first + frames ≤ 160 }
+    ensures enough { first + frames ≤ array_vec_len out.new }
+    ensures rest { drop (first + frames) out.new.items ≡ drop (first + frames) out.old.items }
+    ensures read { GivesBehind (take first out.old.items) (take (first + frames) out.new.items) r.old r.new result ((coded_frames coding.now frames).read r.old.all r.old.place) }
 {
-    let bytes = bytes_of(r);
-    let lookups = lookups_of(&coding.channels);
-    for _ in 0..frames {
-        let mut frame = FrameCode {
-            bypass: 0,
-            codes: ArrayVec::new(),
-        };
-        read_frame(coding, &lookups, bytes, r, &mut frame)?;
-        out.push(frame);
-    }
-    Ok(())
+    let end = first + usize::from(frames);
+    fill_up(end, out);
+    read_over(coding, r, &mut out.as_mut_slice()[first..end])
 }

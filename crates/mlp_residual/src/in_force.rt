@@ -1,8 +1,8 @@
 //! How frames are coded by the parameters in force.
-ghost use Rattle.std.specs.Prelude.{◌≡◌, ◌-◌, ◌≤◌, All, IsTrue, length, map, drop};
+ghost use Rattle.std.specs.Prelude.{◌≡◌, ◌-◌, ◌≤◌, All, IsTrue, length, map, take, drop};
 ghost use Rattle.mlp_params.specs.States.{IsState, IsChannelState};
 ghost use Rattle.mlp_residual.specs.Frames.{channel_codes, coding_of, steps_below, steps_fit, frames_of, IsCoded, GivesBehind};
-ghost use Rattle.std.specs.Prelude.{◌+◌, OnOk};
+ghost use Rattle.std.specs.Prelude.{◌+◌};
 ghost use Rattle.arrayvec.specs.ArrayVec.{array_vec_len};
 
 use crate::frames::{ChannelCode, Coding, read_coded};
@@ -99,11 +99,32 @@ pub fn coding_in_force(state: &State) -> Coding
     }
 }
 
-/// Reads so many frames by the parameters in force and appends them.
+/// Reads so many frames by the parameters in force, behind the first `first` of those in `out`, in place of others or
+/// appended to them.
 ///
 /// A fault is `Code` at nine bits that are no code, or `SegmentShort` at a field whose bits aren't all there: the first
-/// such place. Frames before it may then have been appended.
+/// such place. What stands behind the first `first` is of no use then.
 #[tactic(auto, unfolding(crate::specs::Frames::frames_of))]
+pub fn read_frames_behind(
+    state: &State,
+    first: usize,
+    frames: u16,
+    r: &mut BitReader,
+    out: &mut ArrayVec<FrameCode, 160>,
+) -> Result<(), Broken>
+    requires state { IsState state.now }
+    requires low { IsTrue (steps_fit state.now) }
+    requires first { first ≤ array_vec_len out.old }
+    requires room { first + frames ≤ 160 }
+    ensures enough { first + frames ≤ array_vec_len out.new }
+    ensures rest { drop (first + frames) out.new.items ≡ drop (first + frames) out.old.items }
+    ensures read { GivesBehind (take first out.old.items) (take (first + frames) out.new.items) r.old r.new result ((frames_of state.now frames).read r.old.all r.old.place) }
+{
+    let coding = coding_in_force(state);
+    read_coded(&coding, first, frames, r, out)
+}
+
+/// Reads so many frames by the parameters in force and appends them. Faults are those of `read_frames_behind`.
 pub fn read_frames(
     state: &State,
     frames: u16,
@@ -113,9 +134,9 @@ pub fn read_frames(
     requires state { IsState state.now }
     requires low { IsTrue (steps_fit state.now) }
     requires room { array_vec_len out.old + frames ≤ 160 }
-    ensures count { OnOk result (length out.new.items ≡ length out.old.items + frames) }
+    ensures count { length out.new.items ≡ length out.old.items + frames }
     ensures read { GivesBehind out.old.items out.new.items r.old r.new result ((frames_of state.now frames).read r.old.all r.old.place) }
 {
-    let coding = coding_in_force(state);
-    read_coded(&coding, frames, r, out)
+    let first = out.len();
+    read_frames_behind(state, first, frames, r, out)
 }

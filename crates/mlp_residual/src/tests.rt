@@ -66,7 +66,7 @@ fn frames_of_two_channels(rt: HostRuntime) {
     let coding = Coding { bypass, channels };
     let mut r = BitReader::new(&[0xB2, 0xA7, 0xF0, 0x10]);
     let mut frames: ArrayVec<FrameCode, 160> = ArrayVec::new();
-    assert_eq!(rt; read_coded(&coding, 2, &mut r, &mut frames), Ok(()));
+    assert_eq!(rt; read_coded(&coding, 0, 2, &mut r, &mut frames), Ok(()));
     assert_eq!(rt; r.place(), 20);
     let wanted = [
         (1, Code { symbol: 7, low: 2 }, Code { symbol: 0, low: 5 }),
@@ -82,14 +82,14 @@ fn frames_of_two_channels(rt: HostRuntime) {
         field: Field::SegmentShort,
         bit: 30,
     };
-    assert_eq!(rt; read_coded(&coding, 2, &mut r, &mut later), Err(short));
+    assert_eq!(rt; read_coded(&coding, 0, 2, &mut r, &mut later), Err(short));
     later.clear();
     let mut gap = BitReader::new(&[0x90, 0x1F]);
     let code = Broken {
         field: Field::Code,
         bit: 2,
     };
-    assert_eq!(rt; read_coded(&coding, 1, &mut gap, &mut later), Err(code));
+    assert_eq!(rt; read_coded(&coding, 0, 1, &mut gap, &mut later), Err(code));
 }
 
 /// What is in force behind the restart header of a silent stereo stream, the bits of which stand behind two others.
@@ -139,7 +139,7 @@ fn read_residual(book: u8, low: u8, bytes: &[u8]) -> Result<i32, Broken>
         channels,
     };
     let mut frames: ArrayVec<FrameCode, 160> = ArrayVec::new();
-    read_coded(&coding, 1, &mut BitReader::new(bytes), &mut frames)?;
+    read_coded(&coding, 0, 1, &mut BitReader::new(bytes), &mut frames)?;
     let code = frames[0].codes.first().copied().unwrap_or_default();
     let mut coded = FrameCode::default();
     coded.codes.push(code);

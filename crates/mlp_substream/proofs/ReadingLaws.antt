@@ -93,9 +93,9 @@ filled before hs ks cs ds e d = ap (λ (xs : List BlockHead). seg xs cs) e ∙ a
     seg : List BlockHead → List FrameCode → Segment
     seg xs ys = record before { blocks = record { items = xs }; codes = record { items = ys } }
 
--- with the heads that are left of those that stand there
-pub out_filled : (out before : Segment) (bs : List Block) (hs : List BlockHead) → out ≡ record before { blocks = out.blocks; codes = out.codes } → hs ≡ heads_of bs → out.codes.items ≡ codes_of bs → record out { blocks = record { items = hs } } ≡ with_blocks before bs
-out_filled out before bs hs rest e d = ap (λ (s : Segment). record s { blocks = record { items = hs } }) rest ∙ filled before hs (heads_of bs) out.codes.items (codes_of bs) e d
+-- with the heads and frames that are left of those that stand there
+pub out_filled : (out before : Segment) (bs : List Block) (hs : List BlockHead) (cs : List FrameCode) → out ≡ record before { blocks = out.blocks; codes = out.codes } → hs ≡ heads_of bs → cs ≡ codes_of bs → record out { blocks = record { items = hs }; codes = record { items = cs } } ≡ with_blocks before bs
+out_filled out before bs hs cs rest e d = ap (λ (s : Segment). record s { blocks = record { items = hs }; codes = record { items = cs } }) rest ∙ filled before hs (heads_of bs) cs (codes_of bs) e d
 
 -- with the blocks behind those that were read, and all else as it was
 pub rest_stays : (next out before : Segment) → next ≡ record out { blocks = next.blocks; codes = next.codes } → out ≡ record before { blocks = out.blocks; codes = out.codes } → next ≡ record before { blocks = next.blocks; codes = next.codes }

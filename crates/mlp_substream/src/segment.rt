@@ -1,5 +1,5 @@
 //! Reading a segment.
-ghost use Rattle.std.specs.Prelude.{◌≡◌, ◌+◌, ◌-◌, ◌*◌, ◌≤◌, ◌<◌, [], Ok, Err, IfOk, OnOk, IfSome, MatchResult, length};
+ghost use Rattle.std.specs.Prelude.{◌≡◌, ◌+◌, ◌-◌, ◌*◌, ◌≤◌, ◌<◌, Ok, Err, IfOk, OnOk, IfSome, MatchResult, length};
 ghost use Rattle.mlp_bits.specs.Bits.{bits_of};
 ghost use Rattle.mlp_layout.specs.Tails.{whole_text};
 ghost use Rattle.mlp_substream.specs.Checks.{checks_fault};
@@ -25,7 +25,6 @@ fn read_fields(
     requires size { length bytes.now ≤ 8190 }
     requires place { IsPlace place.now }
     requires state { IfSome state.old (λ s. FitsPlace place.now.format place.now.unit_frames s) }
-    requires codes { out.old.codes.items ≡ [] }
     ensures read { MatchResult result
         (λ _. (whole_text (segment_tail place.now known.now (record { force = state.old; so_far = 0; due = place.now.major }) out.old.checked)).read (bits_of bytes.now) ≡ Ok out.new)
         (λ e. (whole_text (segment_tail place.now known.now (record { force = state.old; so_far = 0; due = place.now.major }) out.old.checked)).read (bits_of bytes.now) ≡ Err e) }
@@ -53,7 +52,6 @@ fn read_text(
     requires size { length bytes.now ≤ 8190 }
     requires place { IsPlace place.now }
     requires state { IfSome state.old (λ s. FitsPlace place.now.format place.now.unit_frames s) }
-    requires codes { out.old.codes.items ≡ [] }
     ensures read { MatchResult result
         (λ _. (segment_text place.now known.now state.old out.old.checked).read (bits_of bytes.now) ≡ Ok out.new)
         (λ e. (segment_text place.now known.now state.old out.old.checked).read (bits_of bytes.now) ≡ Err e) }
@@ -108,7 +106,6 @@ pub fn read_segment_into(
     ensures force { OnOk result (state.new ≡ force_after place.now state.old out.new.blocks.items) }
     ensures state { OnOk result (IfSome state.new (λ s. FitsPlace place.now.format place.now.unit_frames s)) }
 {
-    out.codes.clear();
     out.checked = checked;
     if !checked {
         return read_text(place, known, state, bytes, out);

@@ -4,10 +4,12 @@ ghost use Rattle.mlp_substream.specs.Blocks.{FitsPlace, IsPlace};
 ghost use Rattle.mlp_syntax.specs.declared.major.Kind.TheVariants.{Fba};
 
 use crate::laws::{law_blocks, law_known, law_reread, law_segment, law_written};
+use crate::vectors::{RICH, bytes_of};
 use crate::{Ending, Known, Place, read_segment, read_segment_into, write_segment};
 use mlp_layout::broken;
 use mlp_params::State;
 use mlp_syntax::{Broken, Field, Kind, Segment, UnitBytes, UnitTooLong};
+use std::process::Abort;
 
 /// A restart, 40 frames of no bits, and checks.
 const FIRST: [u8; 24] = [
@@ -25,6 +27,12 @@ const ENDED: [u8; 30] = [
 const TWENTY: [u8; 28] = [
     0xF1, 0xEA, 0x0E, 0x10, 0x01, 0x10, 0, 0, 0, 0, 0, 0, 0, 0, 0, 0x03, 0x98, 0x08, 0x01, 0, 0, 0,
     0, 0, 0, 0x80, 0xAF, 0x6A,
+];
+
+/// A restart of channel 1 alone, 40 frames of no bits, and checks.
+const ONE_CHANNEL: [u8; 24] = [
+    0xF1, 0xEA, 0x0E, 0x10, 0x11, 0x10, 0, 0, 0, 0, 0, 0, 0, 0, 0, 0x02, 0xDE, 0x8A, 0x04, 0x00,
+    0x80, 0x00, 0x7F, 0x45,
 ];
 
 fn stereo(major: bool) -> Place
@@ -241,4 +249,38 @@ fn reads_by_what_is_known(rt: HostRuntime) {
         &mut segment,
     );
     assert_eq!(rt; answer, Err(broken(Field::ChannelsChanged, 40)));
+}
+
+/// Reads a first segment over what `segment` holds: it then holds what it would without that.
+fn assert_over(rt: &impl Abort, place: &Place, bytes: &[u8], segment: &mut Segment)
+    requires size { length bytes.now ≤ 8190 }
+    requires place { IsPlace place.now }
+{
+    let mut state: Option<State> = None;
+    let Ok(fresh) = read_segment(place, &mut state, bytes, true) else {
+        panic!(rt; "it is a segment");
+    };
+    let mut state: Option<State> = None;
+    let answer = read_segment_into(place, &Known::default(), &mut state, bytes, true, segment);
+    assert_eq!(rt; answer, Ok(()));
+    assert!(rt; *segment == fresh);
+}
+
+#[test]
+fn reads_over_other_segments(rt: HostRuntime) {
+    let place = Place {
+        format: Kind::Fba,
+        unit_frames: 160,
+        major: true,
+    };
+    let rich = bytes_of(&RICH);
+    let mut segment = Segment::default();
+    assert_over(&rt, &place, &TWENTY, &mut segment);
+    assert_over(&rt, &stereo(true), rich.as_slice(), &mut segment);
+    assert_over(&rt, &stereo(true), &ONE_CHANNEL, &mut segment);
+    assert_eq!(rt; (segment.blocks.len(), segment.codes.len()), (1, 40));
+    assert!(rt; segment.codes.iter().all(|frame| frame.codes.len() == 1));
+    assert_over(&rt, &place, &TWENTY, &mut segment);
+    assert_over(&rt, &stereo(true), &ENDED, &mut segment);
+    assert_eq!(rt; (segment.blocks.len(), segment.codes.len()), (2, 40));
 }

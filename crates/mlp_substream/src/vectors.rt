@@ -286,7 +286,7 @@ const RUNS: [Run; 9] = [
 ];
 
 /// A segment with each group of parameters, of 122 bytes with its two bytes of checks behind them.
-const RICH: [&str; 3] = [
+pub(crate) const RICH: [&str; 3] = [
     "F1EA0E1001112468ACAAAA80026AE00381FE82622B506024112C8CC49ED23203EAA64DFD7E98918000021940",
     "000259C0000500C600003219400009F380001498C0000D40CA0000739C00010A1F0804808425140232127949",
     "35027346241555600B285AEEA5E40C2E2928665A403521B7DC9C50393D66C1E57A00FA00071F",
@@ -346,7 +346,7 @@ fn put_once(digits: &[u8], bytes: &mut ArrayVec<u8, 512>) {
     }
 }
 
-fn bytes_of(lines: &[&str]) -> ArrayVec<u8, 512> {
+pub(crate) fn bytes_of(lines: &[&str]) -> ArrayVec<u8, 512> {
     let mut bytes = ArrayVec::new();
     for line in lines {
         put(line, 1, &mut bytes);

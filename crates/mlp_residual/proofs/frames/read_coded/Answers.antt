@@ -1,33 +1,50 @@
-use Rattle.std.proofs.Common.{[], ◌∙◌, arith}
-use Rattle.std.proofs.lemmas.Result.{err_from_is_err_and}
-use Rattle.std.proofs.lemmas.List.{length_push}
-use Rattle.mlp_layout.specs.Combined.{series}
-use Rattle.mlp_layout.proofs.Loops.{series_goes_on, series_stops, series_is_done}
-use Rattle.mlp_residual.specs.Frames.{frame, coded_frames}
-use Rattle.mlp_residual.proofs.FrameLaws.{starts_behind, front_fails}
+use Rattle.std.proofs.Common.{◌≡◌, ◌≤◌, ◌+◌, ◌-◌, ◌++◌, length, take, drop, ap, sym, ◌∙◌, arith}
+use Rattle.std.proofs.lemmas.List.{length-take, length-drop, take-take}
+use Rattle.std.proofs.lemmas.Slice.{take-put_mid, drop-put_mid}
+use borrow.Rule.Slice.PartMut.{put_mid}
+use Rattle.mlp_residual.specs.Frames.{coded_frames}
+use Rattle.mlp_residual.proofs.FrameLaws.{length_in_place, written_back, stands_behind}
 use Rattle.mlp_residual.proofs.frames.read_coded.Goals as goal
 
-pub loop-init : goal.loop-init
-loop-init c = rw c.bytes_of-bytes.ensures.same (record { moved = omega arith; so_far = starts_behind (frame c.args.coding.now) c.args.frames c.args.out.now.items c.args.r.now.all c.args.r.now.place; same_bits = cc; count = omega arith })
-
-pub returns-in_err-read_frame-clause-read : goal.returns-in_err-read_frame-clause-read
-unfolding coded_frames
-returns-in_err-read_frame-clause-read c =
-    let i = c.loop.invariant in
-    let p = err_from_is_err_and c.from_residual.result c.from_residual.ensures.1 in
-    let fails = series_stops (λ _. frame c.args.coding.now) c.loop.out.items c.args.frames c.loop.counter c.loop.r.all c.loop.r.place c.in_err-read_frame.field-0.0 _ c.loop-test.true c.in_err-read_frame.ensures i.so_far in
-    rw (p.1, p.2) (front_fails c.args.out.now.items ((series (λ _. frame c.args.coding.now) c.args.frames []).read c.args.r.now.all c.args.r.now.place) c.in_err-read_frame.field-0.0 fails)
-
-pub loop-preserved : goal.loop-preserved
-loop-preserved c =
-    let i = c.loop.invariant in
-    let read = c.in_ok-read_frame.ensures in
-    let x = c.read_frame.new.empty in
-    let on = series_goes_on (λ _. frame c.args.coding.now) c.loop.out.items c.args.frames c.loop.counter c.loop.r.all c.loop.r.place c.read_frame.new.r.place x _ c.loop-test.true read.0 i.so_far in
-    record { moved = omega (arith, i.moved, read.2); so_far = rw (c.push.ensures.items, read.1) on; same_bits = read.1 ∙ i.same_bits; count = rw c.push.ensures.items (omega (arith, length_push c.loop.out.items x, i.count)) }
+pub returns-clause-rest : goal.returns-clause-rest
+returns-clause-rest c =
+    let full = c.fill_up.new.out.items in
+    let before = c.as_mut_slice.result.now in
+    let first = c.args.first in
+    let end = c.args.first + c.from.result in
+    let read = c.read_over.new.out in
+    let same : before ≡ full = c.as_mut_slice.ensures.value in
+    let same_length : length before ≡ length full = ap (λ xs. length xs) same in
+    let count : length read ≡ length (take (end - first) (drop first before)) = c.read_over.auto.out in
+    let within : first ≤ length before = omega (arith, c.fill_up.ensures.enough) in
+    let long : length read ≡ end - first = omega (arith, length-take (end - first) (drop first before), length-drop first before, c.fill_up.ensures.enough) in
+    let ends : end ≡ first + c.args.frames = omega (arith, c.from.ensures) in
+    let room : first + (end - first) ≤ length before = omega (arith, c.fill_up.ensures.enough) in
+    let whole : length (put_mid first (end - first) before read) ≡ length full = length_in_place first (end - first) before read room long ∙ same_length in
+    let back = written_back full (put_mid first (end - first) before read) whole in
+    ap (drop (first + c.args.frames)) back ∙ (drop-put_mid first (end - first) before read (first + c.args.frames) (omega arith) within long ∙ (ap (drop (first + c.args.frames)) same ∙ rw (← ends) c.fill_up.ensures.rest))
 
 pub returns-clause-read : goal.returns-clause-read
-unfolding coded_frames
 returns-clause-read c =
-    let i = c.loop.invariant in
-    (series_is_done (λ _. frame c.args.coding.now) c.loop.out.items c.args.frames c.loop.counter c.loop.r.all c.loop.r.place _ c.loop-test.false i.so_far, i.same_bits, i.moved)
+    let full = c.fill_up.new.out.items in
+    let old = c.args.out.now.items in
+    let before = c.as_mut_slice.result.now in
+    let first = c.args.first in
+    let end = c.args.first + c.from.result in
+    let read = c.read_over.new.out in
+    let part = take (end - first) (drop first before) in
+    let same : before ≡ full = c.as_mut_slice.ensures.value in
+    let same_length : length before ≡ length full = ap (λ xs. length xs) same in
+    let count : length read ≡ length part = c.read_over.auto.out in
+    let within : first ≤ length before = omega (arith, c.fill_up.ensures.enough) in
+    let long : length read ≡ end - first = omega (arith, length-take (end - first) (drop first before), length-drop first before, c.fill_up.ensures.enough) in
+    let ends : first + c.args.frames ≡ first + length read = omega (arith, c.from.ensures) in
+    let room : first + (end - first) ≤ length before = omega (arith, c.fill_up.ensures.enough) in
+    let whole : length (put_mid first (end - first) before read) ≡ length full = length_in_place first (end - first) before read room long ∙ same_length in
+    let back = written_back full (put_mid first (end - first) before read) whole in
+    let in_front : first ≤ length old = c.requires.first in
+    let kept : take first before ≡ take first old = ap (take first) same ∙ (sym (take-take first (length old) full in_front) ∙ ap (take first) c.fill_up.ensures.kept) in
+    let made : take (first + c.args.frames) (take (length full) (put_mid first (end - first) before read ++ drop (length (put_mid first (end - first) before read)) full)) ≡ take first old ++ read =
+    ap (take (first + c.args.frames)) back ∙ (take-put_mid first (end - first) before read (first + c.args.frames) ends within ∙ ap (λ xs. xs ++ read) kept) in
+    let frames : length part ≡ c.args.frames = omega (arith, c.from.ensures) in
+    stands_behind (take first old) read _ (length part) c.args.frames (coded_frames c.args.coding.now) c.args.r.now c.read_over.new.r c.read_over.result frames made c.read_over.ensures
