@@ -133,19 +133,20 @@ fn read_given(
     Ok(Some(channel))
 }
 
-/// The parameters of the channels, each behind its flag and against what is in force in it.
+/// The parameters of the channels, each behind its flag and against what is in force in it, in place of those in `out`.
 pub fn read_channels(
     flags: u8,
     in_force: &[ChannelState],
     r: &mut BitReader,
-) -> Result<ArrayVec<Option<ChannelParams>, 8>, Broken>
+    out: &mut ArrayVec<Option<ChannelParams>, 8>,
+) -> Result<(), Broken>
     requires { length in_force.now ≤ 8 }
-    ensures { Gives (λ v. v.items) r.old r.new result ((each (λ c. group true (channel flags c)) in_force.now).read r.old.all r.old.place) }
+    ensures { Gives (λ _. out.new.items) r.old r.new result ((each (λ c. group true (channel flags c)) in_force.now).read r.old.all r.old.place) }
 {
-    let mut channels: ArrayVec<Option<ChannelParams>, 8> = ArrayVec::new();
+    out.clear();
     for state in in_force {
         let channel = read_given(flags, state, r)?;
-        channels.push(channel);
+        out.push(channel);
     }
-    Ok(channels)
+    Ok(())
 }

@@ -63,13 +63,14 @@ fn absent<const N: usize>() -> Filter<N>
     }
 }
 
-fn restarted_channels(count: u8) -> ArrayVec<ChannelState, 8>
+/// So many channels as a restart leaves them, in place of those in `out`.
+fn restart_channels(count: u8, out: &mut ArrayVec<ChannelState, 8>)
     requires { count ≤ 8 }
-    ensures { result.items ≡ replicate count restarted_channel }
+    ensures { out.new.items ≡ replicate count restarted_channel }
 {
-    let mut channels: ArrayVec<ChannelState, 8> = ArrayVec::new();
+    out.clear();
     for _ in 0..count {
-        channels.push(ChannelState {
+        out.push(ChannelState {
             fir: absent(),
             iir: absent(),
             offset: 0,
@@ -77,7 +78,6 @@ fn restarted_channels(count: u8) -> ArrayVec<ChannelState, 8>
             low: 24,
         });
     }
-    channels
 }
 
 impl State {
@@ -90,17 +90,38 @@ impl State {
         ensures value { result ≡ in_force format unit_frames header.now [] }
         ensures lawful { IsState result }
     {
-        State {
+        let mut state = State {
             format,
             unit_frames,
-            restart: copied_restart(header),
-            presence: 0xFF,
-            block_size: 8,
+            restart: Restart::default(),
+            presence: 0,
+            block_size: 0,
             rows: ArrayVec::new(),
-            shifts: zeros(header.max_matrix + 1),
-            steps: zeros(header.max + 1),
-            channels: restarted_channels(header.max + 1),
-        }
+            shifts: ArrayVec::new(),
+            steps: ArrayVec::new(),
+            channels: ArrayVec::new(),
+        };
+        state.put_restart(format, unit_frames, header);
+        state
+    }
+
+    /// Puts in force what a restart does, in place of what was.
+    pub fn put_restart(&mut self, format: Kind, unit_frames: u16, header: &Restart)
+        requires header { Allowed (restart format) header.now }
+        requires least { 8 ≤ unit_frames }
+        requires most { unit_frames ≤ 160 }
+        ensures value { self.new ≡ in_force format unit_frames header.now [] }
+        ensures lawful { IsState self.new }
+    {
+        self.format = format;
+        self.unit_frames = unit_frames;
+        self.restart = copied_restart(header);
+        self.presence = 0xFF;
+        self.block_size = 8;
+        self.rows.clear();
+        self.shifts = zeros(header.max_matrix + 1);
+        self.steps = zeros(header.max + 1);
+        restart_channels(header.max + 1, &mut self.channels);
     }
 }
 

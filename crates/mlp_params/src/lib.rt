@@ -19,7 +19,7 @@ mod write_parameters;
 
 pub use header::read_restart;
 pub use in_force::apply;
-pub use parameters::read_params;
+pub use parameters::{read_params, read_params_into};
 pub use state::{ChannelState, State};
 pub use write_header::write_restart;
 pub use write_parameters::write_params;

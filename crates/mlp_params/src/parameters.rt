@@ -1,7 +1,7 @@
 //! Reading the decoding parameters of a block. Source: the MLP substream syntax as publicly documented.
 #![tactic(auto, unfolding(mlp_layout::specs::Layout::part, mlp_layout::specs::Layout::seen, mlp_layout::specs::Layout::ruled, mlp_layout::specs::Layout::made, mlp_layout::specs::Combined::chosen, mlp_layout::specs::Combined::present, mlp_layout::specs::Combined::group, crate::specs::Parameters::listed, crate::specs::Parameters::groups, crate::specs::Parameters::params))]
 
-ghost use Rattle.std.specs.Prelude.{◌≡◌, ◌+◌, ◌≤◌, ◌<◌, IfOk, Option, ℕ, drop, true, unwrap_or};
+ghost use Rattle.std.specs.Prelude.{◌≡◌, ◌+◌, ◌≤◌, ◌<◌, IfOk, OnOk, Option, ℕ, drop, true, unwrap_or};
 ghost use Rattle.arrayvec.specs.ArrayVec.{array_vec_len};
 ghost use Rattle.mlp_bits.specs.Bits.{bit};
 ghost use Rattle.mlp_layout.specs.Reading.{Gives};
@@ -157,68 +157,76 @@ fn coded(state: &State) -> &[ChannelState]
     &channels[state.restart.min as usize..]
 }
 
-/// The parameters of the channels that the substream codes.
+/// The parameters of the channels that the substream codes, in place of those in `out`.
 #[tactic(auto)]
 fn read_coded(
     flags: u8,
     state: &State,
     r: &mut BitReader,
-) -> Result<ArrayVec<Option<ChannelParams>, 8>, Broken>
+    out: &mut ArrayVec<Option<ChannelParams>, 8>,
+) -> Result<(), Broken>
     requires least { state.now.restart.min ≤ array_vec_len state.now.channels }
     requires most { array_vec_len state.now.channels ≤ 8 }
-    ensures { Gives (λ v. v.items) r.old r.new result ((each (λ c. group true (channel flags c)) (drop state.now.restart.min state.now.channels.items)).read r.old.all r.old.place) }
+    ensures { Gives (λ _. out.new.items) r.old r.new result ((each (λ c. group true (channel flags c)) (drop state.now.restart.min state.now.channels.items)).read r.old.all r.old.place) }
 {
-    read_channels(flags, coded(state), r)
+    read_channels(flags, coded(state), r, out)
 }
 
-/// What follows the presence flags.
+/// What follows the presence flags, in place of what is in `out`.
 fn read_groups(
     state: &State,
     presence: Option<u8>,
     flags: u8,
     r: &mut BitReader,
-) -> Result<Params, Broken>
+    out: &mut Params,
+) -> Result<(), Broken>
     requires channels { array_vec_len state.now.channels ≤ 8 }
     requires least { state.now.restart.min ≤ array_vec_len state.now.channels }
     requires greatest { state.now.restart.max ≤ 7 }
     requires matrix { state.now.restart.max_matrix ≤ 7 }
-    ensures { Gives (λ x. x) r.old r.new result ((groups state.now presence flags).read r.old.all r.old.place) }
+    ensures { Gives (λ _. out.new) r.old r.new result ((groups state.now presence flags).read r.old.all r.old.place) }
 {
     let restart = &state.restart;
-    let block_size = read_block_size(has_bit(flags, 7), state.unit_frames, r)?;
-    let matrices = read_matrices_if(has_bit(flags, 6), state.format, restart, r)?;
-    let shifts = read_shifts_if(has_bit(flags, 5), restart.max_matrix + 1, r)?;
-    let steps = read_steps_if(has_bit(flags, 4), restart.max + 1, r)?;
-    let channels = read_coded(flags, state, r)?;
-    Ok(Params {
-        presence,
-        block_size,
-        matrices,
-        shifts,
-        steps,
-        channels,
-    })
+    out.presence = presence;
+    out.block_size = read_block_size(has_bit(flags, 7), state.unit_frames, r)?;
+    out.matrices = read_matrices_if(has_bit(flags, 6), state.format, restart, r)?;
+    out.shifts = read_shifts_if(has_bit(flags, 5), restart.max_matrix + 1, r)?;
+    out.steps = read_steps_if(has_bit(flags, 4), restart.max + 1, r)?;
+    read_coded(flags, state, r, &mut out.channels)
 }
 
-/// The presence flags, and what follows them.
-fn read_all(state: &State, r: &mut BitReader) -> Result<Params, Broken>
+/// The presence flags, and what follows them, in place of what is in `out`.
+fn read_all(state: &State, r: &mut BitReader, out: &mut Params) -> Result<(), Broken>
     requires { IsState state.now }
-    ensures { Gives (λ x. x) r.old r.new result ((params state.now).read r.old.all r.old.place) }
+    ensures { Gives (λ _. out.new) r.old r.new result ((params state.now).read r.old.all r.old.place) }
 {
     let presence = read_presence(has_bit(state.presence, 0), r)?;
     let flags = presence.unwrap_or(state.presence);
-    read_groups(state, presence, flags, r)
+    read_groups(state, presence, flags, r, out)
 }
 
-/// Reads the decoding parameters of a block, against what is in force before it. Answers the first rule that fails in the
-/// order of the fields, from BlockSize up to HuffLsbs, or SegmentShort at the first field whose bits aren't all there;
-/// places are bits from the reader's first.
+/// Reads the decoding parameters of a block, against what is in force before it, in place of those in `out`.
+///
+/// Answers the first rule that fails in the order of the fields, from BlockSize up to HuffLsbs, or SegmentShort at the
+/// first field whose bits aren't all there; places are bits from the reader's first. `out` is of no use then.
+#[tactic(auto)]
+pub fn read_params_into(state: &State, r: &mut BitReader, out: &mut Params) -> Result<(), Broken>
+    requires { IsState state.now }
+    ensures allowed { OnOk result (Allowed (params state.now) out.new) }
+    ensures read { Gives (λ _. out.new) r.old r.new result ((params state.now).read r.old.all r.old.place) }
+{
+    let _first = r.place();
+    read_all(state, r, out)
+}
+
+/// Reads the decoding parameters of a block as `read_params_into` does.
 #[tactic(auto)]
 pub fn read_params(state: &State, r: &mut BitReader) -> Result<Params, Broken>
     requires { IsState state.now }
     ensures allowed { IfOk result (λ p. Allowed (params state.now) p) }
     ensures read { Gives (λ x. x) r.old r.new result ((params state.now).read r.old.all r.old.place) }
 {
-    let _first = r.place();
-    read_all(state, r)
+    let mut params = Params::default();
+    read_params_into(state, r, &mut params)?;
+    Ok(params)
 }

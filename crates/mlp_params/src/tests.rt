@@ -3,7 +3,10 @@
 ghost use Rattle.std.specs.Prelude.{◌≤◌, length};
 
 use crate::laws::{law_in_force, law_params, law_restart};
-use crate::{ChannelState, State, apply, read_params, read_restart, write_params, write_restart};
+use crate::{
+    ChannelState, State, apply, read_params, read_params_into, read_restart, write_params,
+    write_restart,
+};
 use mlp_bits::{BitReader, BitWriter};
 use mlp_layout::put_number;
 use mlp_syntax::{Broken, Field, Kind};
@@ -39,6 +42,26 @@ fn first_channel(bytes: &[u8]) -> Option<ChannelState>
         Ok(mut state) => state.channels.pop_at(0),
         Err(_broken) => None,
     }
+}
+
+/// Whether a restart and parameters that are put in place of others are what they are by themselves.
+fn same_in_place(bytes: &[u8]) -> Result<bool, Broken>
+    requires { length bytes.now ≤ 8190 }
+{
+    let mut r = BitReader::new(bytes);
+    let header = read_restart(Kind::Fba, &mut r)?;
+    let fresh = State::at_restart(Kind::Fba, 40, &header);
+    let first = read_params(&fresh, &mut r)?;
+    let mut state = after_two_blocks(Kind::Fba, bytes)?;
+    state.put_restart(Kind::Fba, 40, &header);
+    let restarted = state == fresh;
+    apply(&mut state, &first);
+    let mut params = read_params(&state, &mut r)?;
+    let mut again = BitReader::new(bytes);
+    read_restart(Kind::Fba, &mut again)?;
+    let others = params != first;
+    read_params_into(&fresh, &mut again, &mut params)?;
+    Ok(restarted && others && params == first)
 }
 
 /// The number of bits of a header and the parameters of one block, where writing gives the same bytes again.
@@ -485,5 +508,17 @@ fn writes_what_was_read(rt: HostRuntime) {
             ]
         ),
         Some(180)
+    );
+}
+
+#[test]
+fn restarts_and_parameters_in_place(rt: HostRuntime) {
+    assert_eq!(rt;
+        same_in_place(&[
+            0xC7, 0xA8, 0x38, 0x40, 4, 0x40, 0, 0, 0, 0, 0, 0, 0, 0, 0, 0x0E, 0x60, 0x34, 0x78, 8,
+            0, 7, 0xFF, 0xF0, 0, 0x1F, 0xFF, 0xF5, 0x1C, 0x69, 0xC4, 0x2C, 0x50, 0x3E, 0, 0xA3, 0,
+            0,
+        ]),
+        Ok(true)
     );
 }

@@ -13,7 +13,7 @@ use crate::known::{Known, Place};
 use crate::restarts::{read_flags, read_judged};
 use mlp_bits::BitReader;
 use mlp_layout::broken;
-use mlp_params::{State, apply, read_params};
+use mlp_params::{State, apply, read_params_into};
 use mlp_syntax::{BlockHead, Broken, Field, Kind, Params, Restart};
 
 /// A restart header where the flags say so.
@@ -42,8 +42,12 @@ pub fn restart_at(place: &Place, header: &Option<Restart>, state: &mut Option<St
     ensures value { state.new ≡ restarted place.now state.old header.now }
     ensures state { IfSome state.new (λ s. FitsPlace place.now.format place.now.unit_frames s) }
 {
-    if let Some(header) = header {
-        *state = Some(State::at_restart(place.format, place.unit_frames, header));
+    let Some(header) = header else {
+        return;
+    };
+    match state {
+        None => *state = Some(State::at_restart(place.format, place.unit_frames, header)),
+        Some(state) => state.put_restart(place.format, place.unit_frames, header),
     }
 }
 
@@ -69,13 +73,7 @@ fn read_params_if(
     let Some(state) = state else {
         return Err(broken(Field::RestartMissing, r.place()));
     };
-    match read_params(state, r) {
-        Ok(params) => {
-            *out = Some(params);
-            Ok(())
-        }
-        Err(fault) => Err(fault),
-    }
+    read_params_into(state, r, out.get_or_insert_default())
 }
 
 /// Puts parameters in force.

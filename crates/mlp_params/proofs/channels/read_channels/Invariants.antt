@@ -7,7 +7,7 @@ use Rattle.mlp_params.proofs.channels.read_channels.Given as goal
 abbrev pub invariant-loop-state : goal.invariant-loop-state
 invariant-loop-state l = record {
   moved : l.fn.r.place ≤ l.r.place;
-  so_far : Continues (λ c. group true (channel l.flags c)) (drop l.state-index l.in_force) l.channels.items l.r.all l.r.place ((each (λ c. group true (channel l.flags c)) l.in_force).read l.fn.r.all l.fn.r.place);
+  so_far : Continues (λ c. group true (channel l.flags c)) (drop l.state-index l.in_force) l.out.items l.r.all l.r.place ((each (λ c. group true (channel l.flags c)) l.in_force).read l.fn.r.all l.fn.r.place);
   same_bits : l.r.all ≡ l.fn.r.all;
-  count : length l.channels.items ≡ l.state-index;
+  count : length l.out.items ≡ l.state-index;
 }
