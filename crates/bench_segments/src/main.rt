@@ -1,12 +1,14 @@
-//! Writes a segment, reads it so many times, and prints a sum of its codes.
+//! Writes a segment with a restart and one without, reads each so many times, and prints a sum of the latter's codes.
 #![tactic(auto)]
 
-ghost use Rattle.std.specs.Prelude.{◌≤◌, length};
+ghost use Rattle.std.specs.Prelude.{◌≤◌, length, IfSome, OnOk};
+ghost use Rattle.mlp_substream.specs.Blocks.{FitsPlace, IsPlace};
 
 use mlp_bits::{BitWriter, Full, restart_check};
 use mlp_books::{Book1, Book2, Book3, write_symbol};
+use mlp_params::State;
 use mlp_substream::{Known, Place, read_segment_into};
-use mlp_syntax::{FrameCode, Kind, Segment};
+use mlp_syntax::{Broken, FrameCode, Kind, Segment};
 use std::{env, io};
 
 /// The header of a restart of channels from 0 on, up to its check. All but their numbers is 0.
@@ -82,12 +84,22 @@ fn put_frames(channels: u32, low: u32, frames: u32, w: &mut BitWriter) -> Result
     Ok(())
 }
 
-/// A segment of one block behind a restart.
-fn put_segment(channels: u32, low: u32, frames: u32, w: &mut BitWriter) -> Result<(), Full> {
-    w.put(3, 2)?;
-    put_header(channels, w)?;
-    w.put(check_of_header(channels)? % 256, 8)?;
-    put_parameters(channels, low, frames, w)?;
+/// A restart and parameters where they are wanted, and one block behind them.
+fn put_segment(
+    restarts: bool,
+    channels: u32,
+    low: u32,
+    frames: u32,
+    w: &mut BitWriter,
+) -> Result<(), Full> {
+    if restarts {
+        w.put(3, 2)?;
+        put_header(channels, w)?;
+        w.put(check_of_header(channels)? % 256, 8)?;
+        put_parameters(channels, low, frames, w)?;
+    } else {
+        w.put(0, 1)?;
+    }
     put_frames(channels, low, frames, w)?;
     w.put(1, 1)?;
     w.put(0, (16 - w.place() % 16) % 16)
@@ -106,53 +118,86 @@ fn sum_of(frames: &[FrameCode]) -> u32 {
     sum
 }
 
-/// Reads the segment of a unit of so many frames so many times into one record, and sums the codes of the last time.
-fn read(unit_frames: u16, bytes: &[u8], times: u32) -> u32
+/// Reads a segment of a unit of so many frames so many times, behind what is in force.
+fn read(
+    place: &Place,
+    state: &mut Option<State>,
+    bytes: &[u8],
+    times: u32,
+    out: &mut Segment,
+) -> Result<(), Broken>
+    requires place { IsPlace place.now }
+    requires state { IfSome state.old (λ s. FitsPlace place.now.format place.now.unit_frames s) }
+    requires bytes { length bytes.now ≤ 8190 }
+    ensures { OnOk result (IfSome state.new (λ s. FitsPlace place.now.format place.now.unit_frames s)) }
+{
+    let known = Known::default();
+    for _ in 0..times {
+        read_segment_into(place, &known, state, bytes, false, out)?;
+    }
+    Ok(())
+}
+
+/// Reads the one segment and the other, into one record.
+fn read_both(
+    unit_frames: u16,
+    restart: &[u8],
+    plain: &[u8],
+    restarts: u32,
+    times: u32,
+) -> Result<u32, Broken>
     requires least { 8 ≤ unit_frames }
     requires most { unit_frames ≤ 160 }
-    requires bytes { length bytes.now ≤ 8190 }
+    requires restart { length restart.now ≤ 8190 }
+    requires plain { length plain.now ≤ 8190 }
 {
-    let place = Place {
+    let mut place = Place {
         format: Kind::Fba,
         unit_frames,
         major: true,
     };
-    let known = Known::default();
     let mut segment = Segment::default();
-    for _ in 0..times {
-        let mut state = None;
-        if read_segment_into(&place, &known, &mut state, bytes, false, &mut segment).is_err() {
-            return 0;
-        }
-    }
-    sum_of(&segment.codes)
+    let mut state = None;
+    read(&place, &mut state, restart, restarts, &mut segment)?;
+    place.major = false;
+    read(&place, &mut state, plain, times, &mut segment)?;
+    Ok(sum_of(&segment.codes))
 }
 
-fn run(channels: u32, low: u32, frames: u16, times: u32) -> u32
+/// The sum of the codes that are read, 0 where the segments can't be written or read.
+fn run(channels: u32, low: u32, frames: u16, restarts: u32, times: u32) -> u32
     requires least { 8 ≤ frames }
     requires most { frames ≤ 160 }
 {
-    let mut w = BitWriter::new();
-    if put_segment(channels, low, u32::from(frames), &mut w).is_err() || w.place() % 8 != 0 {
+    let mut restart = BitWriter::new();
+    let mut plain = BitWriter::new();
+    if put_segment(true, channels, low, u32::from(frames), &mut restart).is_err()
+        || put_segment(false, channels, low, u32::from(frames), &mut plain).is_err()
+    {
         return 0;
     }
-    let bytes = w.bytes();
-    if bytes.len() > 8190 {
+    if restart.place() % 8 != 0 || plain.place() % 8 != 0 {
         return 0;
     }
-    read(frames, bytes, times)
+    let restart = restart.bytes();
+    let plain = plain.bytes();
+    if restart.len() > 8190 || plain.len() > 8190 {
+        return 0;
+    }
+    read_both(frames, restart, plain, restarts, times).unwrap_or(0)
 }
 
 fn main(rt: HostRuntime) -> io::Result<()> {
     let words: Vec<String> = env::args(&rt)?.skip(1).collect(rt.alloc())?;
-    if words.len() < 4 {
-        println!(rt; "usage: CHANNELS LOW-BITS FRAMES TIMES")?;
+    if words.len() < 5 {
+        println!(rt; "usage: CHANNELS LOW-BITS FRAMES RESTARTS TIMES")?;
         return Ok(());
     }
     let channels = words[0].parse::<u32>().unwrap_or(0).min(8);
     let low = words[1].parse::<u32>().unwrap_or(0).min(16);
     let frames = words[2].parse::<u16>().unwrap_or(0).max(8).min(160);
-    let times = words[3].parse::<u32>().unwrap_or(0);
-    println!(rt; "{}", run(channels, low, frames, times))?;
+    let restarts = words[3].parse::<u32>().unwrap_or(0).max(1);
+    let times = words[4].parse::<u32>().unwrap_or(0);
+    println!(rt; "{}", run(channels, low, frames, restarts, times))?;
     Ok(())
 }
