@@ -62,7 +62,7 @@ fn put_parameters(channels: u32, low: u32, frames: u32, w: &mut BitWriter) -> Re
 
 /// Writes a symbol near the middle of a book, and low bits, as a number gives them.
 fn put_code(book: u32, low: u32, number: u32, w: &mut BitWriter) -> Result<(), Full> {
-    let low = low.min(16);
+    let low = low.min(24);
     let near = 4 + number % 4 + number / 16 % 4;
     match book {
         1 => write_symbol::<Book1>(near, w)?,
@@ -194,7 +194,7 @@ fn main(rt: HostRuntime) -> io::Result<()> {
         return Ok(());
     }
     let channels = words[0].parse::<u32>().unwrap_or(0).min(8);
-    let low = words[1].parse::<u32>().unwrap_or(0).min(16);
+    let low = words[1].parse::<u32>().unwrap_or(0).min(24);
     let frames = words[2].parse::<u16>().unwrap_or(0).max(8).min(160);
     let restarts = words[3].parse::<u32>().unwrap_or(0).max(1);
     let times = words[4].parse::<u32>().unwrap_or(0);
