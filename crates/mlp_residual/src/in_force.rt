@@ -124,7 +124,8 @@ pub fn read_frames_behind(
     read_coded(&coding, first, frames, r, out)
 }
 
-/// Reads so many frames by the parameters in force and appends them. Faults are those of `read_frames_behind`.
+/// Reads so many frames by the parameters in force and appends them. Faults are those of `read_frames_behind`: as many
+/// frames are appended then, and are of no use.
 pub fn read_frames(
     state: &State,
     frames: u16,
