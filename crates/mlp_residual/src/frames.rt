@@ -123,15 +123,37 @@ fn read_codes(
 }
 
 /// Makes room for so many codes, whatever they are.
-#[cold]
-#[inline(never)]
 fn make_room(count: usize, codes: &mut ArrayVec<Code, 8>)
     requires { count ≤ 8 }
     ensures { length codes.new.items ≡ count }
 {
-    codes.clear();
-    for _ in 0..count {
+    codes.truncate(count);
+    for _ in codes.len()..count {
         codes.push(Code { symbol: 0, low: 0 });
+    }
+}
+
+/// Makes room for so many codes in each frame.
+#[cold]
+#[inline(never)]
+fn make_room_in_all(count: usize, frames: &mut [FrameCode])
+    requires { count ≤ 8 }
+    ensures { All (λ frame. array_vec_len frame.codes ≡ count) frames.new }
+{
+    for i in 0..frames.len() {
+        make_room(count, &mut frames[i].codes);
+    }
+}
+
+/// Makes room for so many codes in each frame, unless there is in the first: frames that were read together have as many.
+fn make_room_by_first(count: usize, frames: &mut [FrameCode])
+    requires { count ≤ 8 }
+    ensures { length frames.new ≡ length frames.old }
+{
+    if let Some(first) = frames.first() {
+        if first.codes.len() != count {
+            make_room_in_all(count, frames);
+        }
     }
 }
 
@@ -186,6 +208,7 @@ fn read_over(coding: &Coding, r: &mut BitReader, out: &mut [FrameCode]) -> Resul
     ensures { Gives (λ _. out.new) r.old r.new result ((coded_frames coding.now (length out.old)).read r.old.all r.old.place) }
 {
     let lookups = lookups_of(&coding.channels);
+    make_room_by_first(coding.channels.len(), out);
     let mut done = 0;
     while done < out.len() {
         done += read_some(coding, &lookups, r, &mut out[done..])?;
