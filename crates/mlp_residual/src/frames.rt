@@ -1,6 +1,7 @@
 //! Reading the frames of a block.
-ghost use Rattle.std.specs.Prelude.{◌≡◌, ◌+◌, ◌*◌, ◌≤◌, ◌<◌, ◌^◌, [], Ok, All, IfOk, OnOk, Err, MatchResult, length, map, take, drop, false, if◌then◌else◌};
+ghost use Rattle.std.specs.Prelude.{◌≡◌, ◌+◌, ◌*◌, ◌≤◌, ◌<◌, ◌^◌, [], Ok, All, IfOk, OnOk, Err, MatchResult, length, map, take, drop, slice_index_or, false, if◌then◌else◌};
 ghost use Rattle.arrayvec.specs.ArrayVec.{array_vec_len};
+ghost use Rattle.mlp_syntax.specs.declared.segment.FrameCode.{FrameCode};
 ghost use Rattle.mlp_layout.specs.Layout.{Layout, made, part};
 ghost use Rattle.mlp_layout.specs.Combined.{flag, chosen, series};
 ghost use Rattle.mlp_layout.specs.Reading.{Gives};
@@ -148,7 +149,7 @@ fn make_room_in_all(count: usize, frames: &mut [FrameCode])
 /// Makes room for so many codes in each frame, unless there is in the first: frames that were read together have as many.
 fn make_room_by_first(count: usize, frames: &mut [FrameCode])
     requires { count ≤ 8 }
-    ensures { length frames.new ≡ length frames.old }
+    ensures { (other : FrameCode) → 0 < length frames.new → array_vec_len (slice_index_or frames.new 0 other).codes ≡ count }
 {
     if let Some(first) = frames.first() {
         if first.codes.len() != count {

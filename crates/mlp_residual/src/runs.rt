@@ -1,5 +1,5 @@
 //! Reading frames one after the other from words.
-ghost use Rattle.std.specs.Prelude.{◌≡◌, ◌+◌, ◌*◌, ◌≤◌, Ok, Err, All, IfOk, MatchResult, false, length, take};
+ghost use Rattle.std.specs.Prelude.{◌≡◌, ◌↔◌, ◌+◌, ◌*◌, ◌≤◌, Ok, Err, All, IfOk, MatchResult, false, length, take};
 ghost use Rattle.mlp_bits.specs.Bits.{bits_of};
 ghost use Rattle.mlp_residual.specs.Lookups.{AreLookups};
 ghost use Rattle.mlp_residual.specs.Frames.{coded_frames};
@@ -10,7 +10,7 @@ use mlp_syntax::{Broken, FrameCode};
 
 /// Whether some matrix has a bypass bit.
 fn has_bypass(rows: &[bool]) -> bool
-    ensures { result ≡ false → All (λ bypass. bypass ≡ false) rows.now }
+    ensures { result ≡ false ↔ All (λ bypass. bypass ≡ false) rows.now }
 {
     rows.iter().any(|bypass| *bypass)
 }
