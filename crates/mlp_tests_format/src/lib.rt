@@ -1,0 +1,2 @@
+//! Tests of the layers from bits to parameters, and of the outer part of an access unit. There is nothing here but tests.
+#![tactic(auto)]

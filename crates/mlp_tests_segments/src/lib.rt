@@ -1,0 +1,2 @@
+//! Tests of frames and substream segments. There is nothing here but tests.
+#![tactic(auto)]
