@@ -8,7 +8,7 @@ use Rattle.std.proofs.Math.Nat.{div-lt_iff_lt-mul, mul-le-mul_right}
 use Rattle.std.specs.Int.{int_wrap, w32, w64}
 use Rattle.std.proofs.Math.Pow.{pow_pos, pow-lt, pow-add}
 use Rattle.mlp_arith.proofs.Floors.{floor_only}
-use Rattle.mlp_arith.proofs.Residues.{clear_le, wrap_away, low24_unique}
+use Rattle.mlp_arith.proofs.Residues.{clear_le, wrap_away, low24_unique, low24-wrap}
 use Rattle.mlp_arith.specs.Words.{clear, wrap, low24}
 
 -- the low 32 bits of a 64-bit value, read as signed
@@ -55,3 +55,11 @@ shifted_24 v f =
     ap (λ z. to_z w32 (of_z w32 (shr_z z 256))) e
     ∙ to_z-of_z w32 (shr_z (wrap (v *ℤ pos 256)) 256) (let h : mag (wrap (v *ℤ pos 256)) < 2 ^ 31 = (SFits-int_wrap w32 (v *ℤ pos 256)).sfits in record { sfits = omega (arith, mag_shr (wrap (v *ℤ pos 256)) 256) })
     ∙ cut v
+
+-- a sample, by a shift up that may wrap
+pub shifted_sample : (v r : ℤ) (q : ℕ) → q ≤ 7 → FitsSigned w32 v → FitsSigned w32 r →
+    r ≡ low24 (to_z w32 (of_z w32 v * 2 ^ q % 4294967296)) → to_z w32 (of_z w32 r) ≡ low24 (v *ℤ pos (2 ^ q))
+shifted_sample v r q l f g e =
+    let p : 2 ^ q < 2 ^ 8 = let m : q < 8 = omega arith in pow-lt m in
+    let up : to_z w32 (of_z w32 v * 2 ^ q % 4294967296) ≡ wrap (v *ℤ pos (2 ^ q)) = wrapping_mul_is w32 v (pos (2 ^ q)) f (omega (arith, ints)) in
+    to_z-of_z w32 r g ∙ e ∙ ap low24 up ∙ low24-wrap (v *ℤ pos (2 ^ q))

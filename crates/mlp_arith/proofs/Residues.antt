@@ -1,26 +1,39 @@
 -- Laws of cleared, wrapped and cut numbers.
-use Rattle.std.proofs.Common.{◌≡◌, ℕ, ◌^◌, ℤ, pos, ◌+ℤ◌, ◌-ℤ◌, ◌*ℤ◌, neg_ℤ, ◌≤ℤ◌, ◌<ℤ◌, FitsSigned, arith, refl, sym, ◌∙◌, ap}
+use Rattle.std.proofs.Common.{◌≡◌, ℕ, ◌<◌, ◌^◌, ℤ, pos, negsuc, ◌+ℤ◌, ◌-ℤ◌, ◌*ℤ◌, neg_ℤ, ◌≤ℤ◌, ◌<ℤ◌, FitsSigned, arith, refl, sym, ◌∙◌, ap, subst}
 use Rattle.std.proofs.lemmas.Int.{ints, int_wrap_fits, int_wrap-add_left, int_wrap-add_right, int_wrap-mul_right, SFits-int_wrap}
 use Rattle.std.specs.Int.Signed.{shr_z}
 use Rattle.std.specs.Int.{int_wrap, w32}
 use Rattle.std.proofs.Math.Pow.{pow_pos}
 use Rattle.mlp_arith.proofs.Floors.{floor_le, lt_floor, floor_only, floor_add, add-mul}
-use Rattle.mlp_arith.specs.Words.{floor_by, clear, wrap, low24, IsFloor, IsResidue}
+use Rattle.mlp_arith.specs.Words.{floor_by, floor_over, clear, wrap, low24, IsFloor, IsResidue}
 
 -- ---- floors
 
-pub floor_is : (n : ℕ) (v : ℤ) → IsFloor n v (floor_by n v)
-floor_is n v = record {
-  low = floor_le v (2 ^ n) (pow_pos n);
-  high = let e = add-mul (floor_by n v) (pos 1) (pos (2 ^ n)) in omega (arith, ints, e, lt_floor v (2 ^ n) (pow_pos n));
-}
+-- the shift that rounds down is the floor over the power
+pub shr-over : (n : ℕ) (v : ℤ) → shr_z v n ≡ floor_over n v
+shr-over n (pos v) = refl
+shr-over n (negsuc v) = refl
 
-pub floor_unique : (n : ℕ) (v q : ℤ) → IsFloor n v q → floor_by n v ≡ q
-floor_unique n v q h = floor_only v q (2 ^ n) (pow_pos n) h.low (let e = add-mul q (pos 1) (pos (2 ^ n)) in omega (arith, ints, e, h.high))
+pub floor_is : (n : ℕ) (v : ℤ) → 0 < n → IsFloor n v (floor_over n v)
+floor_is n v h =
+    let e = add-mul (shr_z v n) (pos 1) (pos n) in
+    let P : ℤ → Type 0 = λ q. IsFloor n v q in
+    subst P (shr-over n v) (record { low = floor_le v n h; high = omega (arith, ints, e, lt_floor v n h) })
+
+pub floor_unique : (n : ℕ) (v q : ℤ) → 0 < n → IsFloor n v q → floor_over n v ≡ q
+floor_unique n v q h is =
+    sym (shr-over n v) ∙ floor_only v q n h is.low (let e = add-mul q (pos 1) (pos n) in omega (arith, ints, e, is.high))
 
 -- a multiple of the divisor passes through
+pub floor_over-add : (n : ℕ) (v k : ℤ) → 0 < n → floor_over n (v +ℤ k *ℤ pos n) ≡ floor_over n v +ℤ k
+floor_over-add n v k h =
+    sym (shr-over n (v +ℤ k *ℤ pos n)) ∙ floor_add v k n h ∙ ap (λ z. z +ℤ k) (shr-over n v)
+
 pub floor_by-add : (n : ℕ) (v k : ℤ) → floor_by n (v +ℤ k *ℤ pos (2 ^ n)) ≡ floor_by n v +ℤ k
 floor_by-add n v k = floor_add v k (2 ^ n) (pow_pos n)
+
+pub floor_by-over : (n : ℕ) (v : ℤ) → floor_by n v ≡ floor_over (2 ^ n) v
+floor_by-over n v = shr-over (2 ^ n) v
 
 -- ---- cleared low bits
 

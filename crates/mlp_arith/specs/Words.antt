@@ -1,6 +1,11 @@
 -- Whole numbers as the words of a codec.
-use Rattle.std.specs.Prelude.{◌≡◌, ℕ, ◌-◌, ◌^◌, ℤ, pos, neg_ℤ, ◌+ℤ◌, ◌-ℤ◌, ◌*ℤ◌, ◌≤ℤ◌, ◌<ℤ◌}
+use Rattle.std.specs.Prelude.{◌≡◌, ℕ, ◌-◌, ◌/◌, ◌^◌, ℤ, pos, negsuc, neg_ℤ, ◌+ℤ◌, ◌-ℤ◌, ◌*ℤ◌, ◌≤ℤ◌, ◌<ℤ◌}
 use Rattle.std.specs.Int.{int_wrap, int_shr, w32}
+
+-- v / n, rounded down, of a positive n
+abbrev pub floor_over : ℕ → ℤ → ℤ
+floor_over n (pos v) = pos (v / n)
+floor_over n (negsuc v) = negsuc (v / n)
 
 -- v / 2^n, rounded down
 abbrev pub floor_by : ℕ → ℤ → ℤ
@@ -20,10 +25,10 @@ low24 v = v -ℤ clear 24 (v +ℤ pos (2 ^ 23))
 
 -- ---- what these are, by which each is the only one
 
--- q is the greatest number of which 2^n times isn't above v
+-- q is the greatest number of which n times isn't above v
 pub record IsFloor (n : ℕ) (v q : ℤ) : Type 0 where
-  pub low : (q *ℤ pos (2 ^ n)) ≤ℤ v
-  pub high : v <ℤ ((q +ℤ pos 1) *ℤ pos (2 ^ n))
+  pub low : (q *ℤ pos n) ≤ℤ v
+  pub high : v <ℤ ((q +ℤ pos 1) *ℤ pos n)
 
 -- r has w signed bits, and is congruent to v modulo 2^w
 pub record IsResidue (w : ℕ) (v r : ℤ) : Type 0 where

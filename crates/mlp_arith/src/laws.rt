@@ -1,14 +1,15 @@
 //! What holds of the definitions, over all whole numbers.
 
-ghost use Rattle.std.specs.Prelude.{◌≡◌, ℕ, ◌≤◌, ◌^◌, ℤ, pos, ◌+ℤ◌, ◌-ℤ◌, ◌*ℤ◌, ◌≤ℤ◌, ◌<ℤ◌, FitsSigned};
+ghost use Rattle.std.specs.Prelude.{◌≡◌, ℕ, ◌<◌, ◌≤◌, ◌^◌, ℤ, pos, ◌+ℤ◌, ◌-ℤ◌, ◌*ℤ◌, ◌≤ℤ◌, ◌<ℤ◌, FitsSigned};
 ghost use Rattle.std.specs.Int.{w32};
-ghost use Rattle.mlp_arith.specs.Words.{floor_by, clear, wrap, low24, IsFloor, IsResidue};
+ghost use Rattle.mlp_arith.specs.Words.{floor_by, floor_over, clear, wrap, low24, IsFloor, IsResidue};
 
 /// The quotient rounded down is the only one that its two bounds allow, and multiples of the divisor pass through it.
 pub fn law_floor()
-    ensures is { (n : ℕ) (v : ℤ) → IsFloor n v (floor_by n v) }
-    ensures only { (n : ℕ) (v q : ℤ) → IsFloor n v q → floor_by n v ≡ q }
-    ensures add { (n : ℕ) (v k : ℤ) → floor_by n (v +ℤ k *ℤ pos (2 ^ n)) ≡ floor_by n v +ℤ k }
+    ensures is { (n : ℕ) (v : ℤ) → 0 < n → IsFloor n v (floor_over n v) }
+    ensures only { (n : ℕ) (v q : ℤ) → 0 < n → IsFloor n v q → floor_over n v ≡ q }
+    ensures add { (n : ℕ) (v k : ℤ) → 0 < n → floor_over n (v +ℤ k *ℤ pos n) ≡ floor_over n v +ℤ k }
+    ensures power { (n : ℕ) (v : ℤ) → floor_by n v ≡ floor_over (2 ^ n) v }
 {}
 
 /// Clearing takes away less than 2^q, and leaves multiples of 2^q as they are.

@@ -1,7 +1,7 @@
 //! Whole numbers as the words of a codec: division by powers of two that rounds down, cleared low bits, and wrapped values.
 #![tactic(auto)]
 
-ghost use Rattle.std.specs.Prelude.{◌≡◌, ◌<◌, ◌^◌, pos, ◌*ℤ◌};
+ghost use Rattle.std.specs.Prelude.{◌≡◌, ◌<◌, ◌≤◌, ◌^◌, pos, ◌*ℤ◌};
 ghost use Rattle.mlp_arith.specs.Words.{floor_by, clear, wrap, low24};
 
 pub mod laws;
@@ -36,15 +36,10 @@ pub fn low24(v: i32) -> i32
     v.wrapping_mul(256) >> 8
 }
 
-#[cfg(test)]
-mod tests {
-    use super::{clear, floor_by, low24, wrap};
-
-    #[test]
-    fn rounds_down_and_wraps(rt: HostRuntime) {
-        assert_eq!(rt; floor_by(3, -7), -1);
-        assert_eq!(rt; clear(3, -63), -64);
-        assert_eq!(rt; wrap(0x1_8000_0000), -0x8000_0000);
-        assert_eq!(rt; low24(0x0180_0000), -0x80_0000);
-    }
+/// A sample: the number of 24 signed bits that is congruent to `v * 2^shift` modulo 2^24. The shift is at most 7.
+pub fn sample24(v: i32, shift: u8) -> i32
+    requires { shift ≤ 7 }
+    ensures { result ≡ low24 (v *ℤ pos (2 ^ shift)) }
+{
+    low24(v << shift)
 }

@@ -1,2 +1,5 @@
 //! Tests of the kernels, the mixes, the schedule, bytes of samples, and sources and sinks. There is nothing here but tests.
 #![tactic(auto)]
+
+#[cfg(test)]
+mod arith;
