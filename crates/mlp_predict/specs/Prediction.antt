@@ -1,5 +1,5 @@
 -- Prediction of a channel's samples from its latest outputs and differences. All lists of these have the latest first.
-use Rattle.std.specs.Prelude.{ℕ, ◌<◌, ◌≤◌, ◌^◌, List, [], ◌∷◌, ◌++◌, length, take, drop, All, ℤ, pos, neg_ℤ, ◌+ℤ◌, ◌-ℤ◌, ◌*ℤ◌, ◌≤ℤ◌, ◌<ℤ◌}
+use Rattle.std.specs.Prelude.{ℕ, ◌<◌, ◌≤◌, ◌^◌, List, [], ◌∷◌, ◌++◌, length, take, drop, replicate, All, ℤ, pos, neg_ℤ, ◌+ℤ◌, ◌-ℤ◌, ◌*ℤ◌, ◌≤ℤ◌, ◌<ℤ◌}
 use Rattle.mlp_arith.specs.Words.{floor_by, clear, wrap}
 
 -- each coefficient times the value that it belongs to, the first to the latest; values that aren't there are 0
@@ -39,13 +39,28 @@ reduced f past step sample = sample -ℤ clear step (predicted f past)
 abbrev pub past_after : Filters → Past → ℤ → Past
 past_after f past x = record { outputs = x ∷ past.outputs; differences = wrap (x -ℤ predicted f past) ∷ past.differences }
 
+-- values with a state in the place of the latest ones
+abbrev pub replaced : List ℤ → List ℤ → List ℤ
+replaced state values = state ++ drop (length state) values
+
 -- the past with a state, which replaces the latest differences
 abbrev pub with_state : List ℤ → Past → Past
-with_state state past = record past { differences = state ++ drop (length state) past.differences }
+with_state state past = record past { differences = replaced state past.differences }
 
 -- the latest m outputs and n differences
 abbrev pub latest : ℕ → ℕ → Past → Past
 latest m n past = record { outputs = take m past.outputs; differences = take n past.differences }
+
+-- m outputs and n differences of 0
+abbrev pub zeros : ℕ → ℕ → Past
+zeros m n = record { outputs = replicate m (pos 0); differences = replicate n (pos 0) }
+
+-- the past behind which there are m outputs and n differences of 0
+abbrev pub with_zeros : ℕ → ℕ → Past → Past
+with_zeros m n past = record {
+  outputs = past.outputs ++ (zeros m n).outputs;
+  differences = past.differences ++ (zeros m n).differences;
+}
 
 -- ---- a block of samples, in order
 

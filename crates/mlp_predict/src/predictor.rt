@@ -1,9 +1,9 @@
 //! Paired prediction of a channel.
 
-ghost use Rattle.std.specs.Prelude.{◌≡◌, ◌∷◌, ◌-◌, take, ◌<◌, ◌≤◌, ◌↔◌, ◌^◌, pos, neg_ℤ, ◌≤ℤ◌, length, FitsSigned, IfSome, IfNone, IsSome, OnSome, IsTrue, All, replicate, false};
+ghost use Rattle.std.specs.Prelude.{◌≡◌, ◌∷◌, ◌-◌, take, ◌<◌, ◌≤◌, ◌↔◌, ◌^◌, pos, neg_ℤ, ◌≤ℤ◌, length, FitsSigned, IfSome, IfNone, IsSome, OnSome, IsTrue, All, false};
 ghost use Rattle.std.specs.Int.{w32};
 ghost use Rattle.mlp_arith.specs.Words.{clear};
-ghost use Rattle.mlp_predict.specs.Prediction.{predicted, restored, reduced, past_after, past_of, outputs_of, residuals_of, with_state, latest, AreSmall};
+ghost use Rattle.mlp_predict.specs.Prediction.{predicted, restored, reduced, past_after, past_of, outputs_of, residuals_of, with_state, latest, AreSmall, zeros};
 ghost use Rattle.mlp_predict.specs.Filters.{filters_of, differences_of, AreFilters, IsState};
 
 use crate::filters::{shift_of, taps};
@@ -36,12 +36,38 @@ impl<const F: usize, const I: usize> Predictor<F, I> {
     pub fn new() -> Predictor<F, I>
         requires fir_room { F ≤ 16 }
         requires iir_room { I ≤ 16 }
-        ensures { result ≡ record { outputs = replicate F (pos 0); differences = replicate I (pos 0) } }
+        ensures { result ≡ zeros F I }
     {
         Predictor {
             outputs: History::new(),
             differences: History::new(),
         }
+    }
+
+    /// A restart: the past is zeros again.
+    pub fn reset(&mut self)
+        requires fir_room { F ≤ 16 }
+        requires iir_room { I ≤ 16 }
+        ensures { self.new ≡ zeros F I }
+    {
+        self.outputs = History::new();
+        self.differences = History::new();
+    }
+
+    /// The latest `F` outputs, the latest first.
+    pub fn outputs(&self) -> &[i32]
+        ensures value { result.now ≡ self.now.outputs }
+        ensures count { length result.now ≡ F }
+    {
+        self.outputs.as_slice()
+    }
+
+    /// The latest `I` differences, the latest first.
+    pub fn differences(&self) -> &[i32]
+        ensures value { result.now ≡ self.now.differences }
+        ensures count { length result.now ≡ I }
+    {
+        self.differences.as_slice()
     }
 
     /// The prediction of the next output: the weighted sum of the past over 2^shift, rounded down.
@@ -107,7 +133,7 @@ impl<const F: usize, const I: usize> Predictor<F, I> {
 
     /// The same channel once more.
     #[inline]
-    fn copied(&self) -> Predictor<F, I>
+    pub fn copied(&self) -> Predictor<F, I>
         ensures { result ≡ self.now }
     {
         Predictor {
@@ -297,6 +323,7 @@ impl<const F: usize, const I: usize> Predictor<F, I> {
         requires iir_room { I ≤ 16 }
         requires filters { AreFilters fir.now iir.now }
         requires step { step < 16 }
+        requires most { length block.old ≤ 160 }
         ensures outputs { block.new ≡ outputs_of (filters_of fir.now iir.now) self.old step block.old }
         ensures past { self.new ≡ latest F I (past_of (filters_of fir.now iir.now) self.old block.new) }
     {
