@@ -52,6 +52,9 @@ impl Source for MemSource {
 
     ghost counted = { λ s. capped_counted s.failed };
 
+    /// # Errors
+    ///
+    /// [`Failed`] exactly at the calls that were told to fail.
     fn read(&mut self, buf: &mut [u8]) -> Result<usize, Failed>
         ensures bound { IfOk result (λ n. n ≤ length buf.new) }
         ensures bytes { ReadConsumes (Some self.old.bytes_left) (Some self.new.bytes_left) result buf.new }
@@ -125,6 +128,9 @@ impl Sink for MemSink {
 
     ghost counted = { λ s. capped_counted s.failed };
 
+    /// # Errors
+    ///
+    /// [`Failed`] exactly at the calls that were told to fail, and where there is a byte and no room.
     fn write(&mut self, piece: &[u8]) -> Result<usize, Failed>
         ensures bound { IfOk result (λ n. n ≤ length piece.now) }
         ensures progress { IfOk result (λ n. 0 < length piece.now → 0 < n) }

@@ -41,7 +41,14 @@ impl<R: Read> Source for StdSource<R> {
 
     ghost counted = { λ s. capped_counted s.failed };
 
-    // What stands in a buffer after an error of the reader isn't told, so it reads into a buffer of its own.
+    /// Reads through a buffer of its own, since what stands in a buffer after an error of the reader isn't told.
+    ///
+    /// Clauses can't count the calls of the reader. Tests alone show that its end is `Ok(0)` and no fault, and that it isn't asked
+    /// again behind its error.
+    ///
+    /// # Errors
+    ///
+    /// [`Failed`] at an error of the reader.
     fn read(&mut self, buf: &mut [u8]) -> Result<usize, Failed>
         ensures bound { IfOk result (λ n. n ≤ length buf.new) }
         ensures bytes { ReadConsumes self.old.bytes_left self.new.bytes_left result buf.new }
@@ -93,6 +100,14 @@ impl<W: Write> Sink for StdSink<W> {
 
     ghost counted = { λ s. capped_counted s.failed };
 
+    /// Writes what the writer takes at once.
+    ///
+    /// Clauses can't count the calls of the writer. Tests alone show that an empty piece is no fault, and that the writer isn't
+    /// asked again behind its error.
+    ///
+    /// # Errors
+    ///
+    /// [`Failed`] at an error of the writer, and where it takes nothing of a piece that isn't empty.
     fn write(&mut self, piece: &[u8]) -> Result<usize, Failed>
         ensures bound { IfOk result (λ n. n ≤ length piece.now) }
         ensures progress { IfOk result (λ n. 0 < length piece.now → 0 < n) }

@@ -3,3 +3,5 @@
 
 #[cfg(test)]
 mod arith;
+#[cfg(test)]
+mod io;
