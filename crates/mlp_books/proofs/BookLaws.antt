@@ -1,7 +1,7 @@
 -- What passes the tests is a book.
 use Rattle.std.proofs.Common.{◌≡◌, ℕ, zero, suc, ◌+◌, ◌<◌, ◌≤◌, Bool, true, false, cond, eqb, leb, not, List, [], ◌∷◌, ◌++◌, length, take, Option, Some, None, refl, sym, ap, subst, ◌∙◌, arith, ◌⊎◌, inl, inr}
 use Rattle.std.specs.Prelude.{◌&&◌, ◌||◌, is_some}
-use Rattle.std.proofs.lemmas.Bool.{leb-true, eqb-true, cases_lt}
+use Rattle.std.proofs.lemmas.Bool.{and_parts, leb-true, eqb-true, cases_lt}
 use Rattle.mlp_bits.specs.Bits.{bits}
 use Rattle.mlp_books.specs.Books.{code_of, begins, find_symbol, all_below, is_free, is_wide, same_bool, is_whole, Passes, IsNone, IsBook}
 
@@ -155,15 +155,11 @@ at-find book is text s a = go (find_symbol book 0 text) refl
 
 -- ---- tests
 
-and_true : (a b : Bool) → (a && b) ≡ true → (a ≡ true) × (b ≡ true)
-and_true true b h = (refl, h)
-and_true false b h = absurd cc
-
 all_below-at : (n i : ℕ) (f : ℕ → Bool) → all_below n f ≡ true → i < n → f i ≡ true
 unfolding all_below
 all_below-at zero i f h lt = absurd (omega arith)
 all_below-at (suc n) i f h lt =
-    let both = and_true (f n) (all_below n f) h in
+    let both = and_parts (f n) (all_below n f) h in
     at (eqb i n) refl both.0 (λ ne. all_below-at n i f both.1 ne)
   where
     at : (b : Bool) → eqb i n ≡ b → f n ≡ true → (i < n → f i ≡ true) → f i ≡ true
@@ -202,8 +198,8 @@ pub book_is : {book : List (List Bool)} → Passes book → IsBook book
 unfolding is_free is_wide is_whole whole_test
 book_is {book} p = record {
   no_prefix = λ s t hs ht h. eqb-true s t (free_at (begins (code_of book s) (code_of book t)) (eqb s t) (all_below-at (length book) t _ (all_below-at (length book) s _ p.free hs) ht) h);
-  shortest = λ s h. leb-true 1 (length (code_of book s)) ((and_true (leb 1 (length (code_of book s))) (leb (length (code_of book s)) 9) (all_below-at (length book) s _ p.wide h)).0);
-  longest = λ s h. leb-true (length (code_of book s)) 9 ((and_true (leb 1 (length (code_of book s))) (leb (length (code_of book s)) 9) (all_below-at (length book) s _ p.wide h)).1);
+  shortest = λ s h. leb-true 1 (length (code_of book s)) ((and_parts (leb 1 (length (code_of book s))) (leb (length (code_of book s)) 9) (all_below-at (length book) s _ p.wide h)).0);
+  longest = λ s h. leb-true (length (code_of book s)) 9 ((and_parts (leb 1 (length (code_of book s))) (leb (length (code_of book s)) 9) (all_below-at (length book) s _ p.wide h)).1);
   none = λ n s h lt. find-none book 0 (bits 9 n) s (none_at (find_symbol book 0 (bits 9 n)) n h (all_below-at 512 n _ p.whole (is_none-small n h))) lt;
   some = λ n lt h.
       let found = some_at (find_symbol book 0 (bits 9 n)) n h (all_below-at 512 n _ p.whole lt) in

@@ -5,7 +5,8 @@ use Rattle.std.specs.Prelude.{is_some}
 use Rattle.mlp_syntax.specs.declared.fault.Field.{Field}
 use Rattle.mlp_bits.specs.Bits.{digit}
 use Rattle.mlp_layout.specs.Layout.{Layout, IsLayout, Rule, number_of, seen, ruled, tested, made, never, part, item}
-use Rattle.mlp_layout.specs.Combined.{under, flag, signed, unsigned, signed_of, fixed, checked, chosen, present, group, times, series, is_empty, up_to_last}
+use Rattle.mlp_layout.specs.Combined.{under, flag, signed_of, fixed, checked, chosen, present, group, times, series, is_empty, up_to_last}
+use Rattle.mlp_bits.specs.Signed.{signed, unsigned}
 use Rattle.mlp_layout.proofs.LayoutLaws.{number_of_is, seen_is, ruled_is, tested_is, whole_is, made_is, never_is, part_is, item_is}
 
 -- ---- rules

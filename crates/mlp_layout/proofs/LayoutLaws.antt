@@ -10,13 +10,13 @@ use Rattle.mlp_bits.proofs.BitLists.{length-bits}
 use Rattle.mlp_bits.proofs.ReadBack.{number-of, bits-number}
 use Rattle.mlp_bits.proofs.Fields.{number-below}
 use Rattle.mlp_layout.specs.Reading.{Read, ◌>>=◌, Stands, broken, short, number_at}
-use Rattle.mlp_layout.specs.Layout.{Layout, Found, behind, Sound, IsLayout, HasOneReading, Rule, number_of, seen, spelling_as, FitsAs, MeetsAs, ruled, judged, tested, opening, whole, renamed, made, never, part, item, marked, next_is, sized, inside}
+use Rattle.mlp_layout.specs.Layout.{Layout, Found, behind, Sound, IsLayout, HasOneReading, Rule, number_of, seen, spelling_as, FitsAs, MeetsAs, ruled, judged, tested, opening, whole, renamed, made, never, part, item, marked, next_is, sized}
 use Rattle.mlp_layout.proofs.Standing.{Stands-nil, Stands-append, Stands-front, Stands-back, Stands-first, Stands-cut, Stands-uncut}
 
-abbrev ok_of : {A : Type 0} → A → Result A Broken
+abbrev pub ok_of : {A : Type 0} → A → Result A Broken
 ok_of x = Ok x
 
-ok_is : {A : Type 0} (x y : A) → ok_of x ≡ ok_of y → x ≡ y
+pub ok_is : {A : Type 0} (x y : A) → ok_of x ≡ ok_of y → x ≡ y
 ok_is x y e = cc
 
 err_is : {A : Type 0} (d e : Broken) → (let r : Result A Broken = Err d in r ≡ Err e) → d ≡ e
@@ -315,35 +315,5 @@ module _ {A : Type 0} (size : ℕ) (field : Field) (back : ℕ) {l : Layout A} (
     failed = λ all p e f. elim f [
       | inl g ↦ let less : leb (p + size) (length all) ≡ false = lt-leb _ _ g.0 in rw (less, g.1) refl
       | inr g ↦ let enough : leb (p + size) (length all) ≡ true = le-leb _ _ g.0 in rw enough (h.failed (take (p + size) all) p e g.1)
-    ];
-  }
-
--- ---- a value whose bits are read once more
-
-module _ {O U : Type 0} (outer_of : U → O) (first : O → ℕ) {outer : Layout O} {inner : O → Layout U} (h : IsLayout outer) (k : (o : O) → IsLayout (inner o)) (starts : (o : O) → outer.Fits o → first o ≤ length (outer.spelling o))
-    (sets : (o : O) (u : U) → outer.Fits o → outer.Meets o → (inner o).Fits u → Stands (outer.spelling o) (first o) ((inner o).spelling u) → outer_of u ≡ o) where
-  inside_there : (all : List Bool) (p : ℕ) (o : O × ℕ) → Found outer all p o.0 → o.1 ≡ behind outer p o.0 → (r : Read U) → Sound (inner o.0) (outer.spelling o.0) (first o.0) r → Sound (inside outer outer_of first inner) all p (r >>= λ u. Ok (u.0, o.1))
-  unfolding inside
-  inside_there all p o f at (Ok u) s =
-      let moved = subst (λ (b : O). (outer.Fits b × (inner b).Fits u.0 × Stands (outer.spelling b) (first b) ((inner b).spelling u.0)) × (outer.Meets b × (inner b).Meets u.0) × Stands all p (outer.spelling b) × (o.1 ≡ p + length (outer.spelling b)))
-      (sym (sets o.0 u.0 f.fits f.meets s.0.fits s.0.stands))
-      ((f.fits, s.0.fits, s.0.stands), (f.meets, s.0.meets), f.stands, at) in
-      (record { fits = moved.0; meets = moved.1; stands = moved.2 }, moved.3)
-  inside_there all p o f at (Err e) s = inr (o.0, f, s)
-
-  pub inside_is : IsLayout (inside outer outer_of first inner)
-  unfolding inside
-  inside_is = record {
-    sound = λ all p le. bound (outer.read all p) (λ o. (inner o.0).read (outer.spelling o.0) (first o.0) >>= λ u. Ok (u.0, o.1)) (Sound (inside outer outer_of first inner) all p)
-        (λ o e. let f = is_found h all p le o e in inside_there all p o f.0 f.1 ((inner o.0).read (outer.spelling o.0) (first o.0)) ((k o.0).sound (outer.spelling o.0) (first o.0) (starts o.0 f.0.fits)))
-        (λ e r. inl (is_failed h all p le e r));
-    found = λ all p u f.
-        let o = outer_of u in
-        let one = h.found all p o (record { fits = f.fits.0; meets = f.meets.0; stands = f.stands }) in
-        let two = (k o).found (outer.spelling o) (first o) u (record { fits = f.fits.1; meets = f.meets.1; stands = f.fits.2 }) in
-        rw (one, two) refl;
-    failed = λ all p e f. elim f [
-      | inl g ↦ rw (h.failed all p e g) refl
-      | inr g ↦ rw (h.found all p g.0 g.1, (k g.0).failed (outer.spelling g.0) (first g.0) e g.2) refl
     ];
   }

@@ -1,16 +1,13 @@
 -- Reading a series, and values up to a last one, as a loop does: it goes on, it stops at a fault, it is done. `total` is
 -- what reading the whole gives, and `front` the values that were read.
-use Rattle.std.proofs.Common.{◌≡◌, ℕ, zero, suc, ◌+◌, ◌-◌, ◌<◌, ◌≤◌, Bool, true, false, List, [], ◌∷◌, ◌++◌, Ok, Err, refl, sym, ap, ◌∙◌, append_assoc, arith}
+use Rattle.std.proofs.Common.{◌≡◌, ℕ, zero, suc, ◌+◌, ◌-◌, ◌<◌, ◌≤◌, Bool, true, false, List, [], ◌∷◌, ◌++◌, Ok, Err, refl, sym, ap, ◌∙◌, arith}
 use Rattle.std.proofs.lemmas.List.{append-nil}
 use Rattle.mlp_syntax.specs.declared.fault.Field.{Field}
 use Rattle.mlp_syntax.specs.declared.fault.Broken.{Broken}
-use Rattle.mlp_layout.specs.Reading.{Read, ◌>>=◌, broken, with_front}
+use Rattle.mlp_layout.specs.Reading.{Read, broken, with_front}
 use Rattle.mlp_layout.specs.Layout.{Layout, item, made, never, part}
 use Rattle.mlp_layout.specs.Combined.{flag, chosen, series, up_to_last}
-
-regroup : {A : Type 0} (front : List A) (x : A) (read : Read (List A)) → with_front front (read >>= λ xs. Ok (x ∷ xs.0, xs.1)) ≡ with_front (front ++ x ∷ []) read
-regroup front x (Ok xs) = ap (λ (ys : List _). Ok (ys, xs.1)) (simp append_assoc)
-regroup front x (Err e) = refl
+use Rattle.mlp_layout.proofs.Repeated.{regroup}
 
 -- ---- a series
 

@@ -6,9 +6,14 @@ use Rattle.mlp_layout.specs.Reading.{Read, ◌>>=◌, with_front}
 use Rattle.mlp_layout.specs.Layout.{Layout, item, made}
 use Rattle.mlp_layout.specs.Combined.{times}
 
-regroup : {A : Type 0} (front : List A) (x : A) (read : Read (List A)) → with_front front (read >>= λ xs. Ok (x ∷ xs.0, xs.1)) ≡ with_front (front ++ x ∷ []) read
+-- what was read so far, one value more
+pub regroup : {A : Type 0} (front : List A) (x : A) (read : Read (List A)) → with_front front (read >>= λ xs. Ok (x ∷ xs.0, xs.1)) ≡ with_front (front ++ x ∷ []) read
 regroup front x (Ok xs) = ap (λ (ys : List _). Ok (ys, xs.1)) (simp append_assoc)
 regroup front x (Err e) = refl
+
+pub no_front : {A : Type 0} (r : Read (List A)) → with_front [] r ≡ r
+no_front (Ok x) = refl
+no_front (Err e) = refl
 
 -- what is left to read gives the whole
 abbrev pub Continues : {A : Type 0} → Layout A → ℕ → List A → List Bool → ℕ → Read (List A) → Type 0

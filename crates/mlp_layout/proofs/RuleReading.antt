@@ -1,10 +1,15 @@
 -- A value under rules is read, and then the first rule that fails is the fault.
-use Rattle.std.proofs.Common.{◌≡◌, ℕ, ◌+◌, Bool, List, [], ◌∷◌, Option, Some, None, Ok, Err, refl, ap, ◌∙◌}
+use Rattle.std.proofs.Common.{◌≡◌, ℕ, ◌+◌, Bool, true, false, cond, List, [], ◌∷◌, Option, Some, None, Ok, Err, refl, ap, ◌∙◌}
 use Rattle.mlp_syntax.specs.declared.fault.Field.{Field}
 use Rattle.mlp_syntax.specs.declared.fault.Broken.{Broken}
 use Rattle.mlp_layout.specs.Reading.{Read, broken}
 use Rattle.mlp_layout.specs.Layout.{Layout, Rule, ruled}
 use Rattle.mlp_layout.specs.Combined.{under, first_fault, fault_or}
+
+-- what a rule that doesn't fail says
+pub rule_holds : (b : Bool) (at : ℕ) → cond {A = Option ℕ} b None (Some at) ≡ None → b ≡ true
+rule_holds true at e = refl
+rule_holds false at e = absurd cc
 
 module _ {A : Type 0} (rule : Rule A) (l : Layout A) (all : List Bool) (p : ℕ) where
   rule_passes : (x : A) (q : ℕ) → l.read all p ≡ Ok (x, q) → rule.fails x ≡ None → (ruled rule l).read all p ≡ Ok (x, q)

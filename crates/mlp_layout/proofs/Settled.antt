@@ -8,7 +8,7 @@ use Rattle.mlp_syntax.specs.declared.fault.Field.{Field}
 use Rattle.mlp_syntax.specs.declared.fault.Broken.{Broken}
 use Rattle.mlp_bits.specs.Bits.{number}
 use Rattle.mlp_layout.specs.Reading.{Read, ◌>>=◌, Stands, broken, number_at}
-use Rattle.mlp_layout.specs.Layout.{Layout, Found, behind, IsLayout, Rule, number_of, seen, ruled, tested, opening, whole, renamed, made, never, part, item, marked, next_is, sized, inside}
+use Rattle.mlp_layout.specs.Layout.{Layout, Found, behind, IsLayout, Rule, number_of, seen, ruled, tested, opening, whole, renamed, made, never, part, item, marked, next_is, sized}
 use Rattle.mlp_layout.specs.Combined.{under, chosen, present}
 use Rattle.mlp_layout.proofs.LayoutLaws.{is_found, is_failed}
 
@@ -147,10 +147,6 @@ sized_settled size field back l all p le = record {
       let front : take (p + size) (all ++ more) ≡ take (p + size) all = take-append-le (p + size) all more le in
       rw (there, longer, front) refl;
 }
-
-pub inside_settled : {O U : Type 0} (outer : Layout O) (outer_of : U → O) (first : O → ℕ) (inner : O → Layout U) (all : List Bool) (p : ℕ) → Settled outer all p → Settled (inside outer outer_of first inner) all p
-unfolding inside
-inside_settled outer outer_of first inner all p s = record { same = λ more. rw (s.same more) refl }
 
 -- ---- so what fails and what is there is the same
 

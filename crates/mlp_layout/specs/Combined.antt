@@ -1,7 +1,9 @@
 -- Layouts made of the simple ones.
-use Rattle.std.specs.Prelude.{ℕ, zero, suc, ◌-◌, ◌/◌, ◌^◌, ◌==◌, nat_lt, Bool, true, false, List, [], ◌∷◌, ◌++◌, Option, Some, None, is_some, ℤ, pos, negsuc, if◌then◌else◌}
+use Rattle.std.specs.Prelude.{ℕ, zero, suc, ◌==◌, Bool, true, false, List, [], ◌∷◌, ◌++◌, Option, Some, None, is_some, ℤ, if◌then◌else◌}
+use Rattle.arrayvec.specs.ArrayVec.{ArrayVec}
 use Rattle.mlp_syntax.specs.declared.fault.Field.{Field}
 use Rattle.mlp_bits.specs.Bits.{digit}
+use Rattle.mlp_bits.specs.Signed.{signed, unsigned}
 use Rattle.mlp_layout.specs.Layout.{Layout, Rule, number_of, seen, ruled, made, never, part, item}
 
 -- ---- rules
@@ -40,13 +42,6 @@ unfoldable pub flag : Layout Bool
 flag = seen (λ n. n == 1) (λ b. Some (digit b)) (number_of 1)
 
 -- a signed number in two's complement
-abbrev pub signed : ℕ → ℕ → ℤ
-signed width n = if nat_lt n (2 ^ (width - 1)) then pos n else negsuc (2 ^ width - suc n)
-
-abbrev pub unsigned : ℕ → ℤ → Option ℕ
-unsigned width (pos n) = if nat_lt n (2 ^ (width - 1)) then Some n else None
-unsigned width (negsuc n) = if nat_lt n (2 ^ width / 2) then Some (2 ^ width - suc n) else None
-
 unfoldable pub signed_of : ℕ → Layout ℤ
 signed_of width = seen (signed width) (unsigned width) (number_of width)
 
@@ -83,6 +78,15 @@ is_empty (x ∷ xs) = false
 unfoldable pub times : {A : Type 0} → ℕ → Layout A → Layout (List A)
 times zero l = made []
 times (suc n) l = item l (λ x. times n l)
+
+-- so many values of one layout, in a list of bounded room
+unfoldable pub listed : {A : Type 0} → ℕ → Layout A → Layout (ArrayVec A)
+listed n l = part (times n l) (λ v. v.items) (λ items. made (record { items = items }))
+
+-- a value for each item of a list
+unfoldable pub each : {S A : Type 0} → (S → Layout A) → List S → Layout (List A)
+each l [] = made []
+each l (s ∷ ss) = item (l s) (λ x. each l ss)
 
 -- so many values, each of which may depend on those before it
 unfoldable pub series : {A : Type 0} → (List A → Layout A) → ℕ → List A → Layout (List A)

@@ -192,17 +192,6 @@ sized size field back l = record {
   read = λ all place. if nat_le (place + size) (length all) then l.read (take (place + size) all) place else Err (broken field (place - back));
 }
 
--- ---- a value whose bits are read once more, from a place in it on
-
-unfoldable pub inside : {O U : Type 0} → Layout O → (U → O) → (O → ℕ) → (O → Layout U) → Layout U
-inside outer outer_of first inner = record {
-  spelling = λ u. outer.spelling (outer_of u);
-  Fits = λ u. outer.Fits (outer_of u) × (inner (outer_of u)).Fits u × Stands (outer.spelling (outer_of u)) (first (outer_of u)) ((inner (outer_of u)).spelling u);
-  Meets = λ u. outer.Meets (outer_of u) × (inner (outer_of u)).Meets u;
-  Fails = λ all place e. outer.Fails all place e ⊎ ((o : _) × Found outer all place o × (inner o).Fails (outer.spelling o) (first o) e);
-  read = λ all place. outer.read all place >>= λ o. (inner o.0).read (outer.spelling o.0) (first o.0) >>= λ u. Ok (u.0, o.1);
-}
-
 -- ---- what a layout owes
 
 -- what reading gave is there

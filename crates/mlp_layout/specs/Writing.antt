@@ -1,6 +1,7 @@
 -- Writing bits behind others, up to as many as a writer takes.
-use Rattle.std.specs.Prelude.{◌≡◌, ℕ, ◌+◌, ◌<◌, ◌≤◌, ◌^◌, List, Bool, ◌++◌, length, Result, OnOk, OnErr}
+use Rattle.std.specs.Prelude.{◌≡◌, ℕ, ◌+◌, ◌<◌, ◌≤◌, ◌^◌, List, [], Bool, true, false, ◌++◌, length, Result, OnOk, OnErr}
 use Rattle.mlp_bits.specs.Bits.{bits}
+use Rattle.mlp_layout.specs.Combined.{flag}
 
 -- as many bits as a writer takes: those of 8190 bytes
 abbrev pub room : ℕ
@@ -30,3 +31,8 @@ FieldFits field = (field.0 < 2 ^ field.1) × (field.1 ≤ 32)
 
 abbrev pub field_bits : ℕ × ℕ → List Bool
 field_bits field = bits field.1 field.0
+
+-- what stands where a group gives nothing: its flag, where the group is there
+abbrev pub absent_text : Bool → List Bool
+absent_text true = flag.spelling false
+absent_text false = []

@@ -1,21 +1,30 @@
-//! Reading the simplest values.
+//! Reading the simplest values, highest bit first.
+//!
+//! Where the bits of a value aren't all there, each call answers `Broken` with `Field::SegmentShort` at the value's
+//! first bit.
 ghost use Rattle.std.specs.Prelude.{◌≡◌, ◌≤◌, ◌<◌, ◌^◌, ◌-◌, ℤ, pos, IfOk};
 ghost use lib.IntN.{neg_ℤ};
 ghost use lib.Signed.{◌<ℤ◌, ◌≤ℤ◌};
 ghost use Rattle.mlp_layout.specs.Reading.{Gives};
 ghost use Rattle.mlp_layout.specs.Layout.{number_of};
-ghost use Rattle.mlp_layout.specs.Combined.{flag, signed, signed_of};
+ghost use Rattle.mlp_layout.specs.Combined.{flag, signed_of};
+ghost use Rattle.mlp_bits.specs.Signed.{signed};
 
-use mlp_bits::BitReader;
+use mlp_bits::{BitReader, signed_value};
 use mlp_syntax::{Broken, Field};
 
+/// A rule that fails, and the first bit of its field.
 pub fn broken(field: Field, bit: u32) -> Broken
     ensures { result ≡ record { field = field; bit = bit } }
 {
     Broken { field, bit }
 }
 
-/// A number of so many bits.
+/// A number of `width` bits, at most 32.
+///
+/// # Errors
+///
+/// `Field::SegmentShort` at its first bit where its bits aren't all there.
 #[tactic(auto, unfolding(crate::specs::Layout::number_of, crate::specs::Reading::number_at))]
 pub fn number(width: u32, r: &mut BitReader) -> Result<u32, Broken>
     requires { width ≤ 32 }
@@ -29,6 +38,11 @@ pub fn number(width: u32, r: &mut BitReader) -> Result<u32, Broken>
     }
 }
 
+/// A number of `width` bits, at most 8.
+///
+/// # Errors
+///
+/// `Field::SegmentShort` at its first bit where its bits aren't all there.
 pub fn byte(width: u32, r: &mut BitReader) -> Result<u8, Broken>
     requires { width ≤ 8 }
     ensures read { Gives (λ n. n) r.old r.new result ((number_of width).read r.old.all r.old.place) }
@@ -38,6 +52,11 @@ pub fn byte(width: u32, r: &mut BitReader) -> Result<u8, Broken>
     Ok(n as u8)
 }
 
+/// A number of `width` bits, at most 16.
+///
+/// # Errors
+///
+/// `Field::SegmentShort` at its first bit where its bits aren't all there.
 pub fn word(width: u32, r: &mut BitReader) -> Result<u16, Broken>
     requires { width ≤ 16 }
     ensures read { Gives (λ n. n) r.old r.new result ((number_of width).read r.old.all r.old.place) }
@@ -47,7 +66,11 @@ pub fn word(width: u32, r: &mut BitReader) -> Result<u16, Broken>
     Ok(n as u16)
 }
 
-/// One bit.
+/// One bit, `true` for 1.
+///
+/// # Errors
+///
+/// `Field::SegmentShort` at its first bit where its bits aren't all there.
 #[tactic(auto, unfolding(crate::specs::Layout::seen, crate::specs::Combined::flag))]
 pub fn flag(r: &mut BitReader) -> Result<bool, Broken>
     ensures { Gives (λ b. b) r.old r.new result (flag.read r.old.all r.old.place) }
@@ -57,6 +80,10 @@ pub fn flag(r: &mut BitReader) -> Result<bool, Broken>
 }
 
 /// A number of 64 bits.
+///
+/// # Errors
+///
+/// `Field::SegmentShort` at its first bit where its bits aren't all there.
 #[tactic(auto, unfolding(crate::specs::Layout::number_of, crate::specs::Reading::number_at))]
 pub fn wide(r: &mut BitReader) -> Result<u64, Broken>
     ensures { Gives (λ n. n) r.old r.new result ((number_of 64).read r.old.all r.old.place) }
@@ -68,23 +95,11 @@ pub fn wide(r: &mut BitReader) -> Result<u64, Broken>
     Ok((u64::from(high) << 32) + u64::from(low))
 }
 
-/// What so many bits that spell a number stand for in two's complement.
-fn signed_value(value: u32, width: u32) -> i32
-    requires low { 1 ≤ width }
-    requires high { width ≤ 32 }
-    requires fits { value < 2 ^ width }
-    ensures value { result ≡ signed width value }
-    ensures least { neg_ℤ (pos (2 ^ (width - 1))) ≤ℤ result }
-    ensures most { result <ℤ pos (2 ^ (width - 1)) }
-{
-    if value < 1 << (width - 1) {
-        value as i32
-    } else {
-        (i64::from(value) - (1i64 << width)) as i32
-    }
-}
-
-/// A number in two's complement.
+/// A number of `width` bits in two's complement, 1 to 32.
+///
+/// # Errors
+///
+/// `Field::SegmentShort` at its first bit where its bits aren't all there.
 #[tactic(auto, unfolding(crate::specs::Layout::seen, crate::specs::Combined::signed_of))]
 pub fn signed(width: u32, r: &mut BitReader) -> Result<i32, Broken>
     requires low { 1 ≤ width }
@@ -97,7 +112,11 @@ pub fn signed(width: u32, r: &mut BitReader) -> Result<i32, Broken>
     Ok(signed_value(n, width))
 }
 
-/// A number in two's complement, of at most 16 bits.
+/// A number of `width` bits in two's complement, 1 to 16.
+///
+/// # Errors
+///
+/// `Field::SegmentShort` at its first bit where its bits aren't all there.
 pub fn signed_word(width: u32, r: &mut BitReader) -> Result<i16, Broken>
     requires low { 1 ≤ width }
     requires high { width ≤ 16 }

@@ -5,12 +5,17 @@
 ghost use Rattle.std.specs.Prelude.{◌≡◌, ◌≤◌, ◌<◌, ◌^◌, ℤ, Some};
 ghost use Rattle.std.specs.List.{AllByRecursion, flat_map};
 ghost use Rattle.mlp_layout.specs.Layout.{number_of};
-ghost use Rattle.mlp_layout.specs.Combined.{flag, signed_of, unsigned};
+ghost use Rattle.mlp_layout.specs.Combined.{flag, signed_of};
+ghost use Rattle.mlp_bits.specs.Signed.{unsigned};
 ghost use Rattle.mlp_layout.specs.Writing.{Writes, FieldFits, field_bits};
 
 use mlp_bits::{BitWriter, Full};
 
-/// A number of so many bits.
+/// A number of `width` bits, at most 32.
+///
+/// # Errors
+///
+/// `Full` where the bits would pass 65,520.
 #[tactic(auto, unfolding(crate::specs::Layout::number_of))]
 pub fn put_number(value: u32, width: u32, w: &mut BitWriter) -> Result<(), Full>
     requires width { width ≤ 32 }
@@ -20,7 +25,11 @@ pub fn put_number(value: u32, width: u32, w: &mut BitWriter) -> Result<(), Full>
     w.put(value, width)
 }
 
-/// Numbers, each with its width.
+/// Numbers, each with its width in bits.
+///
+/// # Errors
+///
+/// `Full` where the bits would pass 65,520.
 pub fn put_all(fields: &[(u32, u32)], w: &mut BitWriter) -> Result<(), Full>
     requires { AllByRecursion FieldFits fields.now }
     ensures { Writes w.old w.new result (flat_map field_bits fields.now) }
@@ -32,7 +41,11 @@ pub fn put_all(fields: &[(u32, u32)], w: &mut BitWriter) -> Result<(), Full>
     Ok(())
 }
 
-/// One bit.
+/// One bit, 1 for `true`.
+///
+/// # Errors
+///
+/// `Full` where the bits would pass 65,520.
 #[tactic(auto, unfolding(crate::specs::Combined::flag, crate::specs::Layout::seen))]
 pub fn put_flag(value: bool, w: &mut BitWriter) -> Result<(), Full>
     ensures { Writes w.old w.new result (flag.spelling value) }
@@ -56,7 +69,11 @@ fn unsigned_value(value: i32, width: u32) -> u32
     }
 }
 
-/// A number in two's complement.
+/// A number of `width` bits in two's complement, 1 to 32.
+///
+/// # Errors
+///
+/// `Full` where the bits would pass 65,520.
 #[tactic(auto, unfolding(crate::specs::Layout::seen, crate::specs::Combined::signed_of))]
 pub fn put_signed(value: i32, width: u32, w: &mut BitWriter) -> Result<(), Full>
     requires low { 1 ≤ width }
@@ -68,6 +85,10 @@ pub fn put_signed(value: i32, width: u32, w: &mut BitWriter) -> Result<(), Full>
 }
 
 /// A number of 64 bits.
+///
+/// # Errors
+///
+/// `Full` where the bits would pass 65,520.
 pub fn put_wide(value: u64, w: &mut BitWriter) -> Result<(), Full>
     ensures { Writes w.old w.new result ((number_of 64).spelling value) }
 {

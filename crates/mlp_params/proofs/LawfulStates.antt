@@ -9,12 +9,12 @@ use Rattle.mlp_syntax.specs.declared.major.Kind.{Kind}
 use Rattle.mlp_syntax.specs.declared.restart.Restart.{Restart}
 use Rattle.mlp_params.specs.declared.state.ChannelState.{ChannelState}
 use Rattle.mlp_layout.specs.Layout.{Layout, number_of, seen, ruled, made, part, item}
-use Rattle.mlp_layout.specs.Combined.{signed_of, chosen, times}
-use Rattle.mlp_params.specs.Allowed.{Allowed}
+use Rattle.mlp_layout.specs.Combined.{signed_of, chosen, times, listed}
+use Rattle.mlp_layout.specs.Allowed.{Allowed}
 use Rattle.mlp_params.specs.RestartHeader.{restart}
 use Rattle.mlp_params.specs.Filters.{absent, filter}
 use Rattle.mlp_params.specs.Matrices.{matrix_limit, rows}
-use Rattle.mlp_params.specs.Parameters.{listed, block_size_of, output_shift}
+use Rattle.mlp_params.specs.Parameters.{block_size_of, output_shift}
 use Rattle.mlp_params.specs.InForce.{in_force, restarted_channel, channel_in_force}
 use Rattle.mlp_params.specs.States.{IsChannelState, IsState}
 use Rattle.mlp_params.proofs.RestartRanges.{ranges}

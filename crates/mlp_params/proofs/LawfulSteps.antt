@@ -15,27 +15,24 @@ use Rattle.mlp_params.specs.declared.state.ChannelState.{ChannelState}
 use Rattle.mlp_params.specs.declared.state.State.{State}
 use Rattle.mlp_bits.specs.Bits.{bit}
 use Rattle.mlp_layout.specs.Layout.{Layout, number_of, seen, ruled, tested, made, part, item}
-use Rattle.mlp_layout.specs.Combined.{must, flag, signed_of, chosen, present, group, times}
-use Rattle.mlp_params.specs.Allowed.{Allowed}
+use Rattle.mlp_layout.specs.Combined.{must, flag, signed_of, chosen, present, group, times, listed, each}
+use Rattle.mlp_layout.specs.Allowed.{Allowed}
 use Rattle.mlp_params.specs.Filters.{order_of, absent, widths, filter_state, filter}
 use Rattle.mlp_params.specs.Matrices.{rows}
-use Rattle.mlp_params.specs.Parameters.{listed, each, block_size_of, output_shift, one_precision, filters_tested, channel, groups, params}
+use Rattle.mlp_params.specs.Parameters.{block_size_of, output_shift, one_precision, filters_tested, channel, groups, params}
 use Rattle.mlp_params.specs.InForce.{stateless}
 use Rattle.mlp_params.specs.Applied.{applied, channel_applied, channels_applied}
 use Rattle.mlp_params.specs.States.{IsChannelState, IsState}
-use Rattle.mlp_params.proofs.RestartRanges.{ranges, rule_holds}
+use Rattle.mlp_params.proofs.RestartRanges.{ranges}
+use Rattle.mlp_layout.proofs.RuleReading.{rule_holds}
+use Rattle.mlp_layout.proofs.WritingGroups.{some_allowed}
 use Rattle.mlp_params.proofs.ApplyLaws.{applied_count}
 
 -- ---- groups
 
-pub allowed_some : {A : Type 0} (there : Bool) (l : Layout A) (x : A) → Allowed (group there l) (Some x) → Allowed l x
-unfolding group chosen part present seen made
-allowed_some true l x a = record { fits = a.fits.1.0; meets = a.meets.1 }
-allowed_some false l x a = absurd (let e = a.fits in cc)
-
 pub allowed_now : {A : Type 0} (there : Bool) (l : Layout A) (o : Option A) (old : A) → Allowed (group there l) o → Allowed l old → Allowed l (unwrap_or o old)
 allowed_now there l None old a h = h
-allowed_now there l (Some x) old a h = allowed_some there l x a
+allowed_now there l (Some x) old a h = some_allowed there l x a
 
 -- ---- filters
 
@@ -97,7 +94,7 @@ stateless_allowed n has_state f a = by_items n has_state f.coeffs.items f.shift 
 
 filter_now : (n : ℕ) (has_state there : Bool) (o : Option (Filter n)) (old : Filter n) → Allowed (group there (filter n has_state)) o → Allowed (filter n false) old → Allowed (filter n false) (unwrap_or (option_map stateless o) old)
 filter_now n has_state there None old a h = h
-filter_now n has_state there (Some f) old a h = stateless_allowed n has_state f (allowed_some there (filter n has_state) f a)
+filter_now n has_state there (Some f) old a h = stateless_allowed n has_state f (some_allowed there (filter n has_state) f a)
 
 same_order : (n : ℕ) (o : Option (Filter n)) (old : Filter n) → order_of (unwrap_or (option_map stateless o) old) ≡ order_of (unwrap_or o old)
 same_order n None old = refl
@@ -139,7 +136,7 @@ channel_given flags c g h a =
 
 channel_lawful : (flags : ℕ) (c : ChannelState) (o : Option ChannelParams) → IsChannelState c → Allowed (group true (channel flags c)) o → IsChannelState (channel_applied c o)
 channel_lawful flags c None h a = h
-channel_lawful flags c (Some g) h a = channel_given flags c g h (allowed_some true (channel flags c) g a)
+channel_lawful flags c (Some g) h a = channel_given flags c g h (some_allowed true (channel flags c) g a)
 
 -- ---- the channels
 

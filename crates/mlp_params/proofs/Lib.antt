@@ -1,15 +1,10 @@
-pub mod CheckReading
 pub mod InForceLaws
 pub mod ParameterLaws
 pub mod RestartLaws
-pub mod SignedLaws
-pub mod EachReading
 pub mod RestartRanges
 pub mod ApplyLaws
 pub mod LawfulStates
 pub mod LawfulSteps
-pub mod WritingLoops
-pub mod WritingGroups
 pub mod WritingFilters
 pub mod WritingChannels
 pub mod WritingMatrices

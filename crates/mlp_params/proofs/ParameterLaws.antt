@@ -12,7 +12,8 @@ use Rattle.mlp_layout.proofs.LayoutLaws.{made_is, item_is, part_is, tested_is}
 use Rattle.mlp_layout.proofs.CombinedLaws.{layouts, tested_sets, times_is, made_sets}
 use Rattle.mlp_params.specs.Filters.{widths, filter_state, filter}
 use Rattle.mlp_params.specs.Matrices.{noise_shift_of, row, rows}
-use Rattle.mlp_params.specs.Parameters.{listed, each, filters_tested, channel, groups, params}
+use Rattle.mlp_params.specs.Parameters.{filters_tested, channel, groups, params}
+use Rattle.mlp_layout.specs.Combined.{listed, each}
 
 widths_is : IsLayout widths
 unfolding widths

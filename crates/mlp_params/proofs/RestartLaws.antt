@@ -7,7 +7,7 @@ use Rattle.mlp_layout.specs.Reading.{Gives}
 use Rattle.mlp_layout.specs.Layout.{Layout, IsLayout}
 use Rattle.mlp_layout.proofs.LayoutLaws.{is_found}
 use Rattle.mlp_layout.proofs.CombinedLaws.{layouts, checked_is, fixed_is}
-use Rattle.mlp_params.specs.Allowed.{Allowed}
+use Rattle.mlp_layout.specs.Allowed.{Allowed}
 use Rattle.mlp_params.specs.RestartHeader.{restart_fields, restart}
 
 pub restart_fields_is : (format : Kind) → IsLayout (restart_fields format)

@@ -1,23 +1,14 @@
 -- The channel numbers of a restart that meets the rules.
-use Rattle.std.proofs.Common.{◌≡◌, ℕ, ◌≤◌, Bool, true, false, cond, leb, Option, Some, None, refl, arith}
-use Rattle.std.specs.Prelude.{◌&&◌}
-use Rattle.std.proofs.lemmas.Bool.{eqb-true, leb-true}
+use Rattle.std.proofs.Common.{◌≡◌, ◌≤◌, leb, arith}
+use Rattle.std.proofs.lemmas.Bool.{and_parts, eqb-true, leb-true}
 use Rattle.mlp_syntax.specs.declared.major.Kind.{Kind}
 use Rattle.mlp_syntax.specs.declared.major.Kind.TheVariants.{Fbb, Fba}
 use Rattle.mlp_syntax.specs.declared.restart.Restart.{Restart}
 use Rattle.mlp_layout.specs.Layout.{part, ruled}
 use Rattle.mlp_layout.specs.Combined.{fixed, checked}
-use Rattle.mlp_params.specs.Allowed.{Allowed}
+use Rattle.mlp_layout.specs.Allowed.{Allowed}
+use Rattle.mlp_layout.proofs.RuleReading.{rule_holds}
 use Rattle.mlp_params.specs.RestartHeader.{restart, restart_fields, channel_limit, noise_limit}
-
--- what a rule that doesn't fail says
-pub rule_holds : (b : Bool) (at : ℕ) → cond {A = Option ℕ} b None (Some at) ≡ None → b ≡ true
-rule_holds true at e = refl
-rule_holds false at e = absurd cc
-
-both : (a b : Bool) → (a && b) ≡ true → (a ≡ true) × (b ≡ true)
-both true b e = (refl, e)
-both false b e = absurd cc
 
 limit_most : (format : Kind) → channel_limit format ≤ 7
 limit_most Fbb = omega arith
@@ -35,7 +26,7 @@ unfolding restart restart_fields checked fixed part ruled
 ranges format r h =
     let behind_word = h.meets.0.1 in
     let at_max = behind_word.1.1.1 in
-    let range = both (leb r.min r.max) (leb r.max (channel_limit format)) (rule_holds _ 0 at_max.0.1) in
+    let range = and_parts (leb r.min r.max) (leb r.max (channel_limit format)) (rule_holds _ 0 at_max.0.1) in
     let most : r.max ≤ channel_limit format = leb-true _ _ range.1 in
     record {
       kind = leb-true _ _ (rule_holds _ 0 behind_word.0.1);

@@ -4,13 +4,13 @@ use Rattle.std.specs.Prelude.{All, IfSome}
 use Rattle.mlp_syntax.specs.declared.params.ChannelParams.{ChannelParams}
 use Rattle.mlp_params.specs.declared.state.ChannelState.{ChannelState}
 use Rattle.mlp_layout.specs.Layout.{Layout, seen, number_of, ruled, tested, part, made, item}
-use Rattle.mlp_layout.specs.Combined.{chosen, present, group, times}
-use Rattle.mlp_params.specs.Allowed.{Allowed}
+use Rattle.mlp_layout.specs.Combined.{chosen, present, group, times, each}
+use Rattle.mlp_layout.specs.Allowed.{Allowed}
 use Rattle.mlp_params.specs.Groups.{ChannelParts}
-use Rattle.mlp_params.specs.Parameters.{channel, filters_tested, each}
+use Rattle.mlp_params.specs.Parameters.{channel, filters_tested}
 use Rattle.mlp_params.specs.InForce.{restarted_channel}
-use Rattle.mlp_params.proofs.WritingGroups.{some_allowed}
-use Rattle.mlp_params.proofs.WritingLoops.{text}
+use Rattle.mlp_layout.proofs.WritingGroups.{some_allowed}
+use Rattle.mlp_layout.proofs.WritingLoops.{text}
 
 pub channel_parts : (flags : ℕ) (s : ChannelState) (g : ChannelParams) → Allowed (channel flags s) g → ChannelParts flags g
 unfolding channel part filters_tested tested ruled number_of made

@@ -9,9 +9,9 @@ use Rattle.mlp_bits.specs.Bits.{bits}
 use Rattle.mlp_layout.specs.Layout.{Layout, number_of, ruled, part, made}
 use Rattle.mlp_layout.specs.Combined.{must, flag, signed_of, chosen, present, group, times}
 use Rattle.mlp_params.specs.Filters.{order_of, absent, widths, filter_state, filter}
-use Rattle.mlp_params.specs.Allowed.{Allowed}
-use Rattle.mlp_params.proofs.RestartRanges.{rule_holds}
-use Rattle.mlp_params.proofs.WritingGroups.{fields}
+use Rattle.mlp_layout.specs.Allowed.{Allowed}
+use Rattle.mlp_layout.proofs.RuleReading.{rule_holds}
+use Rattle.mlp_layout.proofs.WritingGroups.{fields}
 
 abbrev behind_order : (n : ℕ) → Bool → ℕ → Layout (Filter n)
 behind_order n has_state order =

@@ -6,7 +6,7 @@ use Rattle.mlp_bits.specs.Bits.{digit}
 use Rattle.mlp_layout.specs.Layout.{number_of, seen, ruled, part, made, item}
 use Rattle.mlp_layout.specs.Combined.{flag, fixed, series, times}
 use Rattle.mlp_params.specs.RestartHeader.{assigned, restart_fields}
-use Rattle.mlp_params.proofs.WritingGroups.{fields}
+use Rattle.mlp_layout.proofs.WritingGroups.{fields}
 
 -- the rule on output channels doesn't show in the text
 pub assigned_fit : (m n : ℕ) (before xs : List ℕ) → (series (assigned m) n before).Fits xs → (times n (number_of 6)).Fits xs

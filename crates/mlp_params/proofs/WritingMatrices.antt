@@ -10,11 +10,11 @@ use Rattle.mlp_syntax.specs.declared.params.MatrixRow.{MatrixRow}
 use Rattle.mlp_bits.specs.Bits.{bits, digit}
 use Rattle.mlp_layout.specs.Layout.{Layout, number_of, ruled, seen, part, made, item}
 use Rattle.mlp_layout.specs.Combined.{must, flag, signed_of, group, times}
-use Rattle.mlp_params.specs.Allowed.{Allowed}
+use Rattle.mlp_layout.specs.Allowed.{Allowed}
 use Rattle.mlp_params.specs.Matrices.{sources, noise_shift_of, row, rows}
-use Rattle.mlp_params.proofs.RestartRanges.{rule_holds}
+use Rattle.mlp_layout.proofs.RuleReading.{rule_holds}
 use Rattle.mlp_params.proofs.WritingFilters.{second_spelling, second_fits}
-use Rattle.mlp_params.proofs.WritingGroups.{fields}
+use Rattle.mlp_layout.proofs.WritingGroups.{fields}
 
 pub noise_fits : (kind n : ℕ) → kind ≢ 0 → (noise_shift_of kind).Fits n → n < 2 ^ 4
 unfolding noise_shift_of ruled number_of

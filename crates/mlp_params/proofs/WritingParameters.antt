@@ -1,13 +1,13 @@
 -- The text of a block's parameters.
 use Rattle.std.proofs.Common.{◌≡◌, ℕ, zero, suc, ◌+◌, ◌<◌, ◌^◌, Bool, true, List, [], ◌∷◌, ◌++◌, drop, refl, ap}
 use Rattle.mlp_layout.specs.Layout.{Layout, number_of, ruled, part, made, item}
-use Rattle.mlp_layout.specs.Combined.{group, times}
+use Rattle.mlp_layout.specs.Combined.{group, times, listed, each}
 use Rattle.arrayvec.specs.ArrayVec.{ArrayVec}
 use Rattle.mlp_syntax.specs.declared.params.Params.{Params}
 use Rattle.mlp_params.specs.declared.state.State.{State}
 use Rattle.mlp_bits.specs.Bits.{bit}
 use Rattle.mlp_params.specs.Matrices.{rows}
-use Rattle.mlp_params.specs.Parameters.{listed, each, block_size_of, output_shift, channel}
+use Rattle.mlp_params.specs.Parameters.{block_size_of, output_shift, channel}
 
 pub size_fits : (unit_frames n : ℕ) → (block_size_of unit_frames).Fits n → n < 2 ^ 9
 unfolding ruled number_of

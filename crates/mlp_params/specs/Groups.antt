@@ -1,15 +1,10 @@
 -- What writing needs to know of groups.
-use Rattle.std.specs.Prelude.{ℕ, ◌<◌, Bool, true, false, List, []}
+use Rattle.std.specs.Prelude.{ℕ, ◌<◌, true, false}
 use Rattle.mlp_syntax.specs.declared.params.ChannelParams.{ChannelParams}
 use Rattle.mlp_bits.specs.Bits.{bit}
-use Rattle.mlp_layout.specs.Combined.{flag, signed_of, group}
-use Rattle.mlp_params.specs.Allowed.{Allowed}
+use Rattle.mlp_layout.specs.Combined.{signed_of, group}
+use Rattle.mlp_layout.specs.Allowed.{Allowed}
 use Rattle.mlp_params.specs.Filters.{filter}
-
--- what stands where a group gives nothing: its flag, where the group is there
-abbrev pub absent_text : Bool → List Bool
-absent_text true = flag.spelling false
-absent_text false = []
 
 -- the parts of a channel's parameters can be written under these presence flags
 pub record ChannelParts (flags : ℕ) (c : ChannelParams) : Type 0 where

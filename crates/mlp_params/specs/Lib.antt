@@ -1,5 +1,3 @@
-pub mod Allowed
-pub mod Signed
 pub mod RestartHeader
 pub mod Filters
 pub mod Matrices

@@ -1,6 +1,5 @@
 -- The decoding parameters of a block, against what is in force before it.
-use Rattle.std.specs.Prelude.{ℕ, ◌+◌, ◌==◌, nat_le, nat_lt, ◌&&◌, ◌||◌, Bool, true, false, List, [], ◌∷◌, drop, Option, unwrap_or}
-use Rattle.arrayvec.specs.ArrayVec.{ArrayVec}
+use Rattle.std.specs.Prelude.{ℕ, ◌+◌, ◌==◌, nat_le, nat_lt, ◌&&◌, ◌||◌, Bool, true, false, drop, Option, unwrap_or}
 use Rattle.mlp_syntax.specs.declared.fault.Field.TheVariants as rule
 use Rattle.mlp_syntax.specs.declared.params.Filter.{Filter}
 use Rattle.mlp_syntax.specs.declared.params.ChannelParams.{ChannelParams}
@@ -8,21 +7,10 @@ use Rattle.mlp_syntax.specs.declared.params.Params.{Params}
 use Rattle.mlp_params.specs.declared.state.ChannelState.{ChannelState}
 use Rattle.mlp_params.specs.declared.state.State.{State}
 use Rattle.mlp_bits.specs.Bits.{bit}
-use Rattle.mlp_layout.specs.Layout.{Layout, number_of, ruled, tested, part, made, item}
-use Rattle.mlp_layout.specs.Combined.{must, signed_of, group, times}
+use Rattle.mlp_layout.specs.Layout.{Layout, number_of, ruled, tested, part, made}
+use Rattle.mlp_layout.specs.Combined.{must, signed_of, group, listed, each}
 use Rattle.mlp_params.specs.Filters.{order_of, filter}
 use Rattle.mlp_params.specs.Matrices.{rows}
-
--- ---- lists
-
--- so many values of one layout, in a list of bounded room
-unfoldable pub listed : {A : Type 0} → ℕ → Layout A → Layout (ArrayVec A)
-listed n l = part (times n l) (λ v. v.items) (λ items. made (record { items = items }))
-
--- a value for each item of a list
-unfoldable pub each : {S A : Type 0} → (S → Layout A) → List S → Layout (List A)
-each l [] = made []
-each l (s ∷ ss) = item (l s) (λ x. each l ss)
 
 -- ---- a channel
 

@@ -4,12 +4,12 @@ use Rattle.arrayvec.specs.ArrayVec.{array_vec_len}
 use Rattle.mlp_params.specs.declared.state.ChannelState.{ChannelState}
 use Rattle.mlp_params.specs.declared.state.State.{State}
 use Rattle.mlp_layout.specs.Layout.{number_of}
-use Rattle.mlp_layout.specs.Combined.{signed_of}
-use Rattle.mlp_params.specs.Allowed.{Allowed}
+use Rattle.mlp_layout.specs.Combined.{signed_of, listed}
+use Rattle.mlp_layout.specs.Allowed.{Allowed}
 use Rattle.mlp_params.specs.RestartHeader.{restart}
 use Rattle.mlp_params.specs.Filters.{order_of, filter}
 use Rattle.mlp_params.specs.Matrices.{rows}
-use Rattle.mlp_params.specs.Parameters.{one_precision, listed, block_size_of, output_shift}
+use Rattle.mlp_params.specs.Parameters.{one_precision, block_size_of, output_shift}
 
 -- two filters without a state, an offset of 15 bits, a book, and low bits
 pub record IsChannelState (c : ChannelState) : Type 0 where

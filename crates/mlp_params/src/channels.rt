@@ -4,9 +4,9 @@
 ghost use Rattle.std.specs.Prelude.{◌≡◌, ◌+◌, ◌≤◌, ◌<◌, IsTrue, true, false, length, unwrap_or};
 ghost use Rattle.mlp_bits.specs.Bits.{bit};
 ghost use Rattle.mlp_layout.specs.Reading.{Gives};
-ghost use Rattle.mlp_layout.specs.Combined.{signed_of, group};
+ghost use Rattle.mlp_layout.specs.Combined.{signed_of, group, each};
 ghost use Rattle.mlp_params.specs.Filters.{order_of, filter};
-ghost use Rattle.mlp_params.specs.Parameters.{one_precision, channel, each};
+ghost use Rattle.mlp_params.specs.Parameters.{one_precision, channel};
 
 use crate::filters::{read_filter, read_signed};
 use crate::state::ChannelState;

@@ -1,29 +1,25 @@
 //! Reading prediction filters. Source: the MLP substream syntax as publicly documented.
 ghost use Rattle.std.specs.Prelude.{◌≡◌, ◌+◌, ◌≤◌, ◌<◌, ◌^◌, IsTrue, IfOk};
 ghost use Rattle.mlp_layout.specs.Reading.{Gives};
-ghost use Rattle.mlp_layout.specs.Combined.{signed, signed_of, times, present};
-ghost use Rattle.mlp_params.specs.Signed.{HasBits};
+ghost use Rattle.mlp_layout.specs.Combined.{signed_of, times, present};
+ghost use Rattle.mlp_bits.specs.Signed.{signed, HasBits};
 ghost use Rattle.mlp_params.specs.Filters.{widths, filter_state, filter};
 
 use arrayvec::ArrayVec;
-use mlp_bits::BitReader;
+use mlp_bits::{BitReader, signed_value};
 use mlp_layout::{broken, byte, flag, number};
 use mlp_syntax::{Broken, Field, Filter, FilterState};
 
-/// What so many bits that spell a number stand for in two's complement, 0 where there are none.
-fn signed_value(n: u32, width: u8) -> i32
+/// What so many bits that spell a number stand for, 0 where there are none.
+fn value_of(n: u32, width: u8) -> i32
     requires width { width ≤ 16 }
     requires fits { n < 2 ^ width }
     ensures { result ≡ signed width n }
 {
     if width == 0 {
-        return 0;
-    }
-    let n = i64::from(n);
-    if n < 1i64 << (width - 1) {
-        n as i32
+        0
     } else {
-        (n - (1i64 << width)) as i32
+        signed_value(n, u32::from(width))
     }
 }
 
@@ -35,7 +31,7 @@ pub fn read_signed(width: u8, r: &mut BitReader) -> Result<i32, Broken>
     ensures bound { IfOk result (λ z. HasBits width z) }
 {
     let n = number(u32::from(width), r)?;
-    Ok(signed_value(n, width))
+    Ok(value_of(n, width))
 }
 
 /// So many signed numbers of so many bits.

@@ -3,7 +3,7 @@ ghost use Rattle.std.specs.Prelude.{◌≡◌, ◌==◌, ◌+◌, ◌≤◌, ◌
 ghost use Rattle.std.specs.List.{list_any};
 ghost use Rattle.mlp_layout.specs.Combined.{series};
 ghost use Rattle.mlp_layout.specs.Reading.{Gives};
-ghost use Rattle.mlp_params.specs.Allowed.{Allowed};
+ghost use Rattle.mlp_layout.specs.Allowed.{Allowed};
 ghost use Rattle.mlp_params.specs.RestartHeader.{restart, restart_fields, assigned, channel_limit, noise_limit};
 
 use arrayvec::ArrayVec;

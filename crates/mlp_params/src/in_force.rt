@@ -1,7 +1,7 @@
 //! Putting parameters in force.
 ghost use Rattle.std.specs.Prelude.{◌≡◌, ◌+◌, ◌≤◌, ◌<◌, ◌++◌, List, [], ◌∷◌, take, drop, length, replicate, unwrap_or, option_map, None};
 ghost use Rattle.mlp_syntax.specs.declared.params.Params.{Params};
-ghost use Rattle.mlp_params.specs.Allowed.{Allowed};
+ghost use Rattle.mlp_layout.specs.Allowed.{Allowed};
 ghost use Rattle.mlp_params.specs.RestartHeader.{restart};
 ghost use Rattle.mlp_params.specs.Parameters.{params};
 ghost use Rattle.mlp_params.specs.InForce.{in_force, restarted_channel, stateless};

@@ -1,11 +1,11 @@
 //! Writing the parameters of channels.
 ghost use Rattle.std.specs.Prelude.{◌≡◌, ◌≤◌, ◌<◌, ℕ, List, length, All, IfSome, true, false};
-ghost use Rattle.mlp_layout.specs.Combined.{signed_of, group};
+ghost use Rattle.mlp_layout.specs.Combined.{signed_of, group, each};
 ghost use Rattle.mlp_layout.specs.Writing.{Writes};
 ghost use Rattle.mlp_params.specs.declared.state.ChannelState.{ChannelState};
-ghost use Rattle.mlp_params.specs.Allowed.{Allowed};
+ghost use Rattle.mlp_layout.specs.Allowed.{Allowed};
 ghost use Rattle.mlp_params.specs.Filters.{filter};
-ghost use Rattle.mlp_params.specs.Parameters.{channel, each};
+ghost use Rattle.mlp_params.specs.Parameters.{channel};
 ghost use Rattle.mlp_params.specs.Groups.{ChannelParts};
 
 use crate::channels::has_bit;

@@ -3,9 +3,8 @@ ghost use Rattle.std.specs.Prelude.{◌≡◌, ◌≤◌, ◌<◌, ℕ, Bool, tr
 ghost use Rattle.mlp_layout.specs.Layout.{number_of};
 ghost use Rattle.mlp_bits.specs.Bits.{digit};
 ghost use Rattle.mlp_layout.specs.Combined.{signed_of, times, group};
-ghost use Rattle.mlp_layout.specs.Writing.{Writes};
-ghost use Rattle.mlp_params.specs.Allowed.{Allowed};
-ghost use Rattle.mlp_params.specs.Groups.{absent_text};
+ghost use Rattle.mlp_layout.specs.Writing.{Writes, absent_text};
+ghost use Rattle.mlp_layout.specs.Allowed.{Allowed};
 ghost use Rattle.mlp_params.specs.Filters.{filter_state, filter};
 
 use mlp_bits::{BitWriter, Full};

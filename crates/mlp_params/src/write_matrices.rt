@@ -3,7 +3,7 @@ ghost use Rattle.std.specs.Prelude.{◌≡◌, ◌≤◌, ◌<◌, ℕ, All, len
 ghost use Rattle.mlp_layout.specs.Combined.{signed_of, group, times};
 ghost use Rattle.mlp_layout.specs.Writing.{Writes};
 ghost use Rattle.mlp_syntax.specs.declared.major.Kind.{Kind};
-ghost use Rattle.mlp_params.specs.Allowed.{Allowed};
+ghost use Rattle.mlp_layout.specs.Allowed.{Allowed};
 ghost use Rattle.mlp_params.specs.Matrices.{noise_shift_of, row, rows};
 
 use crate::write_filters::{digit, write_absent, write_signed};

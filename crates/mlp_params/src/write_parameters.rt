@@ -1,13 +1,13 @@
 //! Writing the decoding parameters of a block.
 ghost use Rattle.std.specs.Prelude.{◌≡◌, ◌≤◌, ◌<◌, ℕ, unwrap_or};
 ghost use Rattle.mlp_layout.specs.Layout.{number_of};
-ghost use Rattle.mlp_layout.specs.Combined.{group};
+ghost use Rattle.mlp_layout.specs.Combined.{group, listed};
 ghost use Rattle.mlp_layout.specs.Writing.{Writes};
 ghost use Rattle.mlp_params.specs.declared.state.State.{State};
 ghost use Rattle.mlp_syntax.specs.declared.major.Kind.{Kind};
-ghost use Rattle.mlp_params.specs.Allowed.{Allowed};
+ghost use Rattle.mlp_layout.specs.Allowed.{Allowed};
 ghost use Rattle.mlp_params.specs.Matrices.{rows};
-ghost use Rattle.mlp_params.specs.Parameters.{listed, block_size_of, output_shift, groups, params};
+ghost use Rattle.mlp_params.specs.Parameters.{block_size_of, output_shift, groups, params};
 ghost use Rattle.mlp_params.specs.States.{IsState};
 
 use crate::channels::has_bit;

@@ -9,9 +9,8 @@ use Rattle.std.proofs.Math.Seq.{take-append-add}
 use Rattle.std.proofs.lemmas.List.{length-append, length-take-le, length-take, length-drop, take_at, take-take}
 use Rattle.std.proofs.lemmas.Slice.{take-put_mid}
 use borrow.Rule.Slice.PartMut.{put_mid}
-use Rattle.mlp_layout.specs.Combined.{series, times}
-use Rattle.mlp_params.specs.Allowed.{Allowed}
-use Rattle.mlp_params.specs.Parameters.{listed}
+use Rattle.mlp_layout.specs.Combined.{series, times, listed}
+use Rattle.mlp_layout.specs.Allowed.{Allowed}
 use Rattle.mlp_layout.proofs.LayoutLaws.{seen_is}
 use Rattle.mlp_layout.proofs.CombinedLaws.{layouts}
 use Rattle.mlp_layout.proofs.Loops.{SeriesContinues}
@@ -20,6 +19,7 @@ use Rattle.mlp_params.specs.declared.state.State.{State}
 use Rattle.mlp_residual.specs.declared.frames.ChannelCode.{ChannelCode}
 use Rattle.mlp_residual.specs.declared.frames.Coding.{Coding}
 use Rattle.mlp_residual.specs.Frames.{packed, unpacked, bypass_bit, bypass_bits, code, frame, coded_frames, frames_of, GivesBehind}
+use Rattle.mlp_layout.proofs.Repeated.{no_front}
 
 abbrev ok_of : {A : Type 0} → A → Result A Broken
 ok_of x = Ok x
@@ -106,10 +106,6 @@ unfolding frames_of
 frames_of_is s count = coded_frames_is _ count
 
 -- ---- reading in a loop
-
-no_front : {A : Type 0} (r : Read (List A)) → with_front [] r ≡ r
-no_front (Ok x) = refl
-no_front (Err e) = refl
 
 -- where a series begins
 pub starts : {A : Type 0} (l : List A → Layout A) (n : ℕ) (all : List Bool) (p : ℕ) → SeriesContinues l (n - 0) [] all p ((series l n []).read all p)

@@ -13,7 +13,7 @@ use Rattle.mlp_layout.specs.Combined.{flag, chosen, up_to_last}
 use Rattle.mlp_layout.proofs.LayoutLaws.{is_found, is_within}
 use Rattle.mlp_layout.proofs.CombinedLaws.{flag_is}
 use Rattle.mlp_params.specs.declared.state.State.{State}
-use Rattle.mlp_params.specs.Allowed.{Allowed}
+use Rattle.mlp_layout.specs.Allowed.{Allowed}
 use Rattle.mlp_params.specs.Parameters.{params}
 use Rattle.mlp_params.specs.RestartHeader.{restart}
 use Rattle.mlp_params.proofs.LawfulStates.{restart_is_state}

@@ -9,7 +9,7 @@ use Rattle.mlp_layout.specs.Layout.{Layout, seen, ruled, part, made, tested, nev
 use Rattle.mlp_layout.specs.Combined.{under, flag, chosen, present, up_to_last}
 use Rattle.mlp_layout.specs.Tails.{part_tail, placed, whole_text, judged_at_end, checked_first, chosen_whole}
 use Rattle.mlp_params.specs.declared.state.State.{State}
-use Rattle.mlp_params.specs.Allowed.{Allowed}
+use Rattle.mlp_layout.specs.Allowed.{Allowed}
 use Rattle.mlp_substream.specs.declared.known.Place.{Place}
 use Rattle.mlp_substream.specs.declared.known.Ending.{Ending}
 use Rattle.mlp_substream.specs.declared.known.Known.{Known}

@@ -3,7 +3,7 @@ use Rattle.std.proofs.Common.{◌≡◌, ℕ, ◌+◌, ◌<◌, ◌≤◌, Bool,
 use Rattle.std.specs.Prelude.{IfSome, ◌&&◌}
 use Rattle.std.proofs.lemmas.Bool.{le-leb, leb-true}
 use Rattle.mlp_params.specs.States.{IsState}
-use Rattle.mlp_params.proofs.RestartRanges.{rule_holds}
+use Rattle.mlp_layout.proofs.RuleReading.{rule_holds}
 use Rattle.std.proofs.lemmas.List.{append-nil}
 use Rattle.mlp_syntax.specs.declared.segment.FrameCode.{FrameCode}
 use Rattle.mlp_syntax.specs.declared.segment.BlockHead.{BlockHead}

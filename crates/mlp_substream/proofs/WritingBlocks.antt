@@ -11,7 +11,7 @@ use Rattle.mlp_layout.specs.Combined.{flag, chosen, is_empty, up_to_last}
 use Rattle.mlp_layout.specs.Writing.{room, Wrote, Filled}
 use Rattle.mlp_layout.proofs.WritingLaws.{SoFar, so_far_begins, so_far_goes_on, so_far_stops, so_far_ends}
 use Rattle.mlp_params.specs.declared.state.State.{State}
-use Rattle.mlp_params.specs.Allowed.{Allowed}
+use Rattle.mlp_layout.specs.Allowed.{Allowed}
 use Rattle.mlp_substream.specs.declared.known.Place.{Place}
 use Rattle.mlp_substream.specs.declared.known.Known.{Known}
 use Rattle.mlp_substream.specs.Blocks.{At, Block, after_head, block, after_block, force_after, FitsPlace}

@@ -11,7 +11,7 @@ use Rattle.mlp_bits.proofs.Words.{bits_of-append}
 use Rattle.mlp_layout.specs.Layout.{number_of, spelling_as, MeetsAs}
 use Rattle.mlp_layout.specs.Combined.{up_to_last}
 use Rattle.mlp_layout.specs.Tails.{part_tail, placed, ending, whole_text, judged_at_end, checked_first, chosen_whole}
-use Rattle.mlp_params.specs.Allowed.{Allowed}
+use Rattle.mlp_layout.specs.Allowed.{Allowed}
 use Rattle.mlp_params.specs.declared.state.State.{State}
 use Rattle.mlp_substream.specs.declared.known.Place.{Place}
 use Rattle.mlp_substream.specs.declared.known.Known.{Known}

@@ -9,7 +9,7 @@ use Rattle.mlp_syntax.specs.declared.segment.BlockHead.{BlockHead}
 use Rattle.mlp_layout.specs.Layout.{Layout, seen, ruled, part, made, tested}
 use Rattle.mlp_layout.specs.Combined.{under, flag, chosen, present}
 use Rattle.mlp_params.specs.declared.state.State.{State}
-use Rattle.mlp_params.specs.Allowed.{Allowed}
+use Rattle.mlp_layout.specs.Allowed.{Allowed}
 use Rattle.mlp_params.specs.RestartHeader.{restart}
 use Rattle.mlp_params.specs.Parameters.{params}
 use Rattle.mlp_residual.specs.Frames.{frames_of}

@@ -3,7 +3,7 @@ ghost use Rattle.std.specs.Prelude.{◌≡◌, ◌+◌, ◌≤◌, ◌<◌, ◌|
 ghost use Rattle.mlp_bits.specs.Bits.{bit};
 ghost use Rattle.mlp_layout.specs.Reading.{Gives};
 ghost use Rattle.mlp_layout.specs.Combined.{first_fault, present};
-ghost use Rattle.mlp_params.specs.Allowed.{Allowed};
+ghost use Rattle.mlp_layout.specs.Allowed.{Allowed};
 ghost use Rattle.mlp_params.specs.RestartHeader.{restart};
 ghost use Rattle.mlp_substream.specs.Restarts.{flags, agrees, all_covered, covers, restart_rules, judged_restart};
 

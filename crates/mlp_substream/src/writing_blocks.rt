@@ -6,7 +6,7 @@ ghost use Rattle.std.specs.Prelude.{◌≡◌, ◌++◌, ℕ, Bool, true, length
 ghost use Rattle.mlp_syntax.specs.declared.fault.Field.TheVariants.{BlockOverrun};
 ghost use Rattle.mlp_layout.specs.Combined.{flag, up_to_last};
 ghost use Rattle.mlp_layout.specs.Writing.{Writes};
-ghost use Rattle.mlp_params.specs.Allowed.{Allowed};
+ghost use Rattle.mlp_layout.specs.Allowed.{Allowed};
 ghost use Rattle.mlp_params.specs.States.{IsState};
 ghost use Rattle.mlp_residual.specs.Frames.{frames_of};
 ghost use Rattle.mlp_substream.specs.Blocks.{against, steps_fit_in, after_head, force_after, block as block_layout, after_block, FitsPlace, IsPlace};

@@ -6,7 +6,7 @@ ghost use Rattle.std.specs.Prelude.{◌≡◌, Bool, is_some, IfSome, OnOk};
 ghost use Rattle.mlp_syntax.specs.declared.major.Kind.{Kind};
 ghost use Rattle.mlp_layout.specs.Combined.{present};
 ghost use Rattle.mlp_layout.specs.Writing.{Writes};
-ghost use Rattle.mlp_params.specs.Allowed.{Allowed};
+ghost use Rattle.mlp_layout.specs.Allowed.{Allowed};
 ghost use Rattle.mlp_params.specs.Parameters.{params};
 ghost use Rattle.mlp_params.specs.States.{IsState};
 ghost use Rattle.mlp_substream.specs.Restarts.{flags, judged_restart};

@@ -1,2 +1,7 @@
 //! Tests of the layers from bits to parameters, and of the outer part of an access unit. There is nothing here but tests.
 #![tactic(auto)]
+
+#[cfg(test)]
+mod bits;
+#[cfg(test)]
+mod layout;

@@ -3,7 +3,7 @@ use Rattle.std.proofs.lemmas.Result.{err_from_is_err_and}
 use Rattle.std.proofs.lemmas.List.{length_push}
 use Rattle.mlp_layout.specs.Combined.{group}
 use Rattle.mlp_params.specs.Parameters.{channel}
-use Rattle.mlp_params.proofs.EachReading.{goes_on, stops, is_done}
+use Rattle.mlp_layout.proofs.EachReading.{goes_on, stops, is_done}
 use Rattle.mlp_params.proofs.channels.read_channels.Goals as goal
 
 pub returns-in_err-channel : goal.returns-in_err-channel

@@ -1,7 +1,7 @@
 use Rattle.std.proofs.Common.{◌≡◌, ◌≤◌, true, drop, length}
-use Rattle.mlp_layout.specs.Combined.{group}
-use Rattle.mlp_params.specs.Parameters.{channel, each}
-use Rattle.mlp_params.proofs.EachReading.{Continues}
+use Rattle.mlp_layout.specs.Combined.{group, each}
+use Rattle.mlp_params.specs.Parameters.{channel}
+use Rattle.mlp_layout.proofs.EachReading.{Continues}
 use Rattle.mlp_params.proofs.channels.read_channels.Given as goal
 
 abbrev pub invariant-loop-state : goal.invariant-loop-state

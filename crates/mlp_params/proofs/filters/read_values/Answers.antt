@@ -4,7 +4,7 @@ use Rattle.std.proofs.lemmas.List.{length_push}
 use Rattle.std.proofs.lemmas.Int.{to_z-of_z}
 use mir.Val.{to_z, of_z}
 use mir.Syntax.{w32}
-use Rattle.mlp_params.proofs.SignedLaws.{fits_32}
+use Rattle.mlp_layout.proofs.SignedLaws.{fits_32}
 use Rattle.mlp_layout.specs.Combined.{signed_of}
 use Rattle.mlp_layout.proofs.Repeated.{goes_on, stops, is_done}
 use Rattle.mlp_params.proofs.filters.read_values.Goals as goal

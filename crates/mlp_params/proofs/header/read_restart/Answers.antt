@@ -5,7 +5,7 @@ use Rattle.mlp_bits.specs.Cursor.{Cursor}
 use Rattle.mlp_syntax.specs.declared.fault.Field.TheVariants as rule
 use Rattle.mlp_params.specs.RestartHeader.{restart, restart_fields}
 use Rattle.mlp_params.proofs.RestartLaws.{restart_fields_is, restart_is, allowed}
-use Rattle.mlp_params.proofs.CheckReading.{check_err, check_short, check_ok, check_fails}
+use Rattle.mlp_layout.proofs.CheckReading.{check_err, check_short, check_ok, check_fails}
 use Rattle.mlp_params.proofs.header.read_restart.Goals as goal
 
 sum_is : (sum first : ℕ) (m r : Cursor) → sum ≡ restart_check_of (take (m.place - first) (drop first m.all)) → first ≡ r.place → m.all ≡ r.all → sum ≡ restart_check_of (take (m.place - r.place) (drop r.place r.all))

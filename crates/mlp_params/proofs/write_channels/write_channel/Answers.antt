@@ -5,7 +5,7 @@ use Rattle.mlp_layout.specs.Combined.{signed_of, group}
 use Rattle.mlp_layout.proofs.WritingLaws.{then_writes, stops_writing}
 use Rattle.mlp_params.specs.Filters.{filter}
 use Rattle.mlp_params.specs.Parameters.{channel, filters_tested}
-use Rattle.mlp_params.proofs.WritingGroups.{fields, fields_only}
+use Rattle.mlp_layout.proofs.WritingGroups.{fields, fields_only}
 use Rattle.mlp_params.proofs.write_channels.write_channel.Goals as goal
 
 pub write_fir-requires : goal.write_fir-requires

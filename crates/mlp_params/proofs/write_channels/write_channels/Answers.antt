@@ -5,7 +5,7 @@ use Rattle.mlp_params.specs.Groups.{ChannelParts}
 use Rattle.std.proofs.lemmas.Result.{err_from_is_err_and}
 use Rattle.mlp_layout.proofs.WritingLaws.{so_far_begins, writes_as}
 use Rattle.mlp_params.specs.InForce.{restarted_channel}
-use Rattle.mlp_params.proofs.WritingLoops.{text, text_goes_on, text_stops, text_done}
+use Rattle.mlp_layout.proofs.WritingLoops.{text, text_goes_on, text_stops, text_done}
 use Rattle.mlp_params.proofs.WritingChannels.{any_channel, channels_text}
 use Rattle.mlp_params.proofs.write_channels.write_channels.Goals as goal
 

@@ -1,6 +1,6 @@
 use Rattle.std.proofs.Common.{drop}
 use Rattle.mlp_layout.proofs.WritingLaws.{SoFar}
-use Rattle.mlp_params.proofs.WritingLoops.{text}
+use Rattle.mlp_layout.proofs.WritingLoops.{text}
 use Rattle.mlp_params.proofs.WritingChannels.{any_channel}
 use Rattle.mlp_params.proofs.write_channels.write_channels.Given as goal
 

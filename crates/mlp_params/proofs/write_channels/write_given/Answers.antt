@@ -3,7 +3,7 @@ use Rattle.mlp_layout.specs.Layout.{seen, part}
 use Rattle.mlp_layout.specs.Combined.{group, chosen, present}
 use Rattle.mlp_layout.proofs.WritingLaws.{then_writes, stops_writing}
 use Rattle.mlp_params.specs.Parameters.{channel}
-use Rattle.mlp_params.proofs.WritingGroups.{writes_none}
+use Rattle.mlp_layout.proofs.WritingGroups.{writes_none}
 use Rattle.mlp_params.proofs.write_channels.write_given.Goals as goal
 
 pub returns-in_err-put_flag-in-Some : goal.returns-in_err-put_flag-in-Some

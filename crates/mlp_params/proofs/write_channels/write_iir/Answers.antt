@@ -1,6 +1,6 @@
 use Rattle.std.proofs.Common.{true, lit<}
 use Rattle.mlp_params.specs.Filters.{filter}
-use Rattle.mlp_params.proofs.WritingGroups.{some_allowed, writes_none, writes_some, flag_stops}
+use Rattle.mlp_layout.proofs.WritingGroups.{some_allowed, writes_none, writes_some, flag_stops}
 use Rattle.mlp_params.proofs.write_channels.write_iir.Goals as goal
 
 pub returns-in_err-put_flag-in-Some : goal.returns-in_err-put_flag-in-Some

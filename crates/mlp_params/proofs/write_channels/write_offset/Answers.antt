@@ -3,8 +3,8 @@ use mir.Val.{to_z, of_z}
 use mir.Syntax.{w32}
 use Rattle.mlp_layout.proofs.WritingLaws.{writes_as}
 use Rattle.mlp_layout.specs.Combined.{signed_of}
-use Rattle.mlp_params.proofs.SignedLaws.{kept, kept_16}
-use Rattle.mlp_params.proofs.WritingGroups.{some_allowed, writes_none, writes_some, flag_stops}
+use Rattle.mlp_layout.proofs.SignedLaws.{kept, kept_16}
+use Rattle.mlp_layout.proofs.WritingGroups.{some_allowed, writes_none, writes_some, flag_stops}
 use Rattle.mlp_params.proofs.write_channels.write_offset.Goals as goal
 
 pub returns-in_err-put_flag-in-Some : goal.returns-in_err-put_flag-in-Some

@@ -4,7 +4,7 @@ use Rattle.mlp_layout.specs.Combined.{times, signed_of, group}
 use Rattle.mlp_layout.proofs.WritingLaws.{writes_as, then_writes, stops_writing}
 use Rattle.mlp_params.specs.Filters.{order_of, filter_state}
 use Rattle.mlp_params.proofs.WritingFilters.{absent_is, filter_text, order_fits, filter_fits}
-use Rattle.mlp_params.proofs.WritingGroups.{fields_stop, fields_then}
+use Rattle.mlp_layout.proofs.WritingGroups.{fields_stop, fields_then}
 use Rattle.mlp_params.proofs.write_filters.write_filter.Goals as goal
 
 pub overflow_cast-order : goal.overflow_cast-order

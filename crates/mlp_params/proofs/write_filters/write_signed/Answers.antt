@@ -1,6 +1,6 @@
 use Rattle.std.proofs.Common.{refl, sym}
 use Rattle.mlp_layout.proofs.WritingLaws.{wrote_none, writes_as}
-use Rattle.mlp_params.proofs.SignedLaws.{no_bits}
+use Rattle.mlp_layout.proofs.SignedLaws.{no_bits}
 use Rattle.mlp_params.proofs.write_filters.write_signed.Goals as goal
 
 pub returns-then-width-eq0 : goal.returns-then-width-eq0

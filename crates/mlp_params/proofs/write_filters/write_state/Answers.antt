@@ -2,7 +2,7 @@ use Rattle.std.proofs.Common.{[], ◌∷◌, ◌++◌}
 use Rattle.mlp_layout.specs.Layout.{part, made, number_of}
 use Rattle.mlp_layout.specs.Combined.{times, signed_of}
 use Rattle.mlp_params.specs.Filters.{filter_state}
-use Rattle.mlp_params.proofs.WritingGroups.{fields_stop, fields_then, ends_with}
+use Rattle.mlp_layout.proofs.WritingGroups.{fields_stop, fields_then, ends_with}
 use Rattle.mlp_params.proofs.write_filters.write_state.Goals as goal
 
 pub returns-in_err-put_all : goal.returns-in_err-put_all

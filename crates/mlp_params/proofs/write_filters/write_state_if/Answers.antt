@@ -1,6 +1,6 @@
 use Rattle.std.proofs.Common.{true}
 use Rattle.mlp_params.specs.Filters.{filter_state}
-use Rattle.mlp_params.proofs.WritingGroups.{some_fits, writes_none, writes_some, flag_stops}
+use Rattle.mlp_layout.proofs.WritingGroups.{some_fits, writes_none, writes_some, flag_stops}
 use Rattle.mlp_params.proofs.write_filters.write_state_if.Goals as goal
 
 pub returns-in_err-put_flag-in-Some : goal.returns-in_err-put_flag-in-Some

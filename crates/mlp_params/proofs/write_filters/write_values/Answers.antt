@@ -2,8 +2,8 @@ use Rattle.std.proofs.Common.{get_or, pos, arith}
 use Rattle.std.proofs.lemmas.List.{get_or_default}
 use Rattle.std.proofs.lemmas.Result.{err_from_is_err_and}
 use Rattle.mlp_layout.specs.Combined.{signed_of}
-use Rattle.mlp_params.proofs.SignedLaws.{kept}
-use Rattle.mlp_params.proofs.WritingLoops.{all_fit, all_written, begins, fits_here, goes_on, stops, is_done}
+use Rattle.mlp_layout.proofs.SignedLaws.{kept}
+use Rattle.mlp_layout.proofs.WritingLoops.{all_fit, all_written, begins, fits_here, goes_on, stops, is_done}
 use Rattle.mlp_params.proofs.write_filters.write_values.Goals as goal
 
 pub loop-value-init : goal.loop-value-init

@@ -3,7 +3,7 @@ use Rattle.mlp_layout.specs.Combined.{series}
 use Rattle.mlp_layout.proofs.WritingLaws.{writes_as}
 use Rattle.mlp_params.specs.RestartHeader.{assigned}
 use Rattle.mlp_params.proofs.WritingHeaders.{assigned_text, header_fields, header_text, header_fits}
-use Rattle.mlp_params.proofs.WritingGroups.{fields_stop, fields_then, ends_with}
+use Rattle.mlp_layout.proofs.WritingGroups.{fields_stop, fields_then, ends_with}
 use Rattle.mlp_params.proofs.write_header.write_fields.Goals as goal
 
 pub put_all-requires : goal.put_all-requires

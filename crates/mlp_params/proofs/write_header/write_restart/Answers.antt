@@ -6,7 +6,7 @@ use Rattle.mlp_layout.specs.Layout.{part, ruled, number_of, made}
 use Rattle.mlp_layout.specs.Combined.{fixed, checked}
 use Rattle.mlp_layout.proofs.WritingLaws.{writes_as, then_writes, stops_writing}
 use Rattle.mlp_params.specs.RestartHeader.{restart_fields, restart}
-use Rattle.mlp_params.proofs.WritingGroups.{ends_with}
+use Rattle.mlp_layout.proofs.WritingGroups.{ends_with}
 use Rattle.mlp_params.proofs.write_header.write_restart.Goals as goal
 
 pub write_fields-requires : goal.write_fields-requires

@@ -1,8 +1,8 @@
 use Rattle.std.proofs.Common.{true, ap, sym, subst, arith}
 use Rattle.mlp_layout.specs.Combined.{signed_of}
 use Rattle.mlp_layout.proofs.WritingLaws.{writes_as}
-use Rattle.mlp_params.proofs.SignedLaws.{kept}
-use Rattle.mlp_params.proofs.WritingGroups.{some_fits, writes_none, writes_some, flag_stops}
+use Rattle.mlp_layout.proofs.SignedLaws.{kept}
+use Rattle.mlp_layout.proofs.WritingGroups.{some_fits, writes_none, writes_some, flag_stops}
 use Rattle.mlp_params.proofs.write_matrices.write_coefficient.Goals as goal
 
 pub returns-in_err-put_flag-in-Some : goal.returns-in_err-put_flag-in-Some

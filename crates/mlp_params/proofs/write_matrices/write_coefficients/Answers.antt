@@ -2,7 +2,7 @@ use Rattle.std.proofs.Common.{true, None, get_or, arith}
 use Rattle.std.proofs.lemmas.List.{get_or_default}
 use Rattle.std.proofs.lemmas.Result.{err_from_is_err_and}
 use Rattle.mlp_layout.specs.Combined.{signed_of, group}
-use Rattle.mlp_params.proofs.WritingLoops.{all_fit, all_written, begins, fits_here, goes_on, stops, is_done}
+use Rattle.mlp_layout.proofs.WritingLoops.{all_fit, all_written, begins, fits_here, goes_on, stops, is_done}
 use Rattle.mlp_params.proofs.write_matrices.write_coefficients.Goals as goal
 
 pub loop-coefficient-init : goal.loop-coefficient-init

@@ -4,7 +4,7 @@ use Rattle.mlp_layout.specs.Combined.{times}
 use Rattle.mlp_layout.proofs.WritingLaws.{then_writes, stops_writing}
 use Rattle.mlp_params.specs.Matrices.{row, rows}
 use Rattle.mlp_params.proofs.WritingMatrices.{rows_all, rows_count}
-use Rattle.mlp_params.proofs.WritingGroups.{ends_with}
+use Rattle.mlp_layout.proofs.WritingGroups.{ends_with}
 use Rattle.mlp_params.proofs.write_matrices.write_matrices.Goals as goal
 
 pub put_number-requires-clause-value : goal.put_number-requires-clause-value

@@ -4,7 +4,7 @@ use Rattle.mlp_layout.specs.Combined.{times, group, signed_of}
 use Rattle.mlp_layout.proofs.WritingLaws.{writes_as, then_writes, stops_writing}
 use Rattle.mlp_params.specs.Matrices.{sources, noise_shift_of}
 use Rattle.mlp_params.proofs.WritingMatrices.{row_fits, row_text}
-use Rattle.mlp_params.proofs.WritingGroups.{fields_stop, fields_then, ends_with}
+use Rattle.mlp_layout.proofs.WritingGroups.{fields_stop, fields_then, ends_with}
 use Rattle.mlp_params.proofs.write_matrices.write_row.Goals as goal
 
 pub put_all-requires : goal.put_all-requires

@@ -2,9 +2,9 @@ use Rattle.std.proofs.Common.{sym, subst, arith}
 use Rattle.std.proofs.lemmas.Result.{err_from_is_err_and}
 use Rattle.mlp_layout.proofs.WritingLaws.{so_far_begins}
 use Rattle.mlp_syntax.specs.declared.params.MatrixRow.{MatrixRow}
-use Rattle.mlp_params.specs.Allowed.{Allowed}
+use Rattle.mlp_layout.specs.Allowed.{Allowed}
 use Rattle.mlp_params.specs.Matrices.{row}
-use Rattle.mlp_params.proofs.WritingLoops.{text, text_goes_on, text_stops, text_done}
+use Rattle.mlp_layout.proofs.WritingLoops.{text, text_goes_on, text_stops, text_done}
 use Rattle.mlp_params.proofs.write_matrices.write_rows.Goals as goal
 
 pub loop-matrix-init : goal.loop-matrix-init

@@ -1,7 +1,7 @@
 use Rattle.std.proofs.Common.{drop}
 use Rattle.mlp_layout.proofs.WritingLaws.{SoFar}
 use Rattle.mlp_params.specs.Matrices.{row}
-use Rattle.mlp_params.proofs.WritingLoops.{text}
+use Rattle.mlp_layout.proofs.WritingLoops.{text}
 use Rattle.mlp_params.proofs.write_matrices.write_rows.Given as goal
 
 abbrev pub invariant-loop-matrix : goal.invariant-loop-matrix

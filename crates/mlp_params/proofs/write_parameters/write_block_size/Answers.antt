@@ -1,7 +1,7 @@
 use Rattle.mlp_layout.specs.Layout.{ruled, number_of}
 use Rattle.mlp_params.specs.Parameters.{block_size_of}
 use Rattle.mlp_params.proofs.WritingParameters.{size_fits}
-use Rattle.mlp_params.proofs.WritingGroups.{some_allowed, writes_none, writes_some, flag_stops}
+use Rattle.mlp_layout.proofs.WritingGroups.{some_allowed, writes_none, writes_some, flag_stops}
 use Rattle.mlp_params.proofs.write_parameters.write_block_size.Goals as goal
 
 pub returns-in_err-put_flag-in-Some : goal.returns-in_err-put_flag-in-Some

@@ -1,13 +1,13 @@
 use Rattle.std.proofs.Common.{◌+◌, [], ◌++◌, drop}
 use Rattle.mlp_layout.specs.Layout.{number_of, part, made}
-use Rattle.mlp_layout.specs.Combined.{group}
+use Rattle.mlp_layout.specs.Combined.{group, listed}
 use Rattle.mlp_layout.proofs.WritingLaws.{then_writes, stops_writing}
 use Rattle.mlp_params.specs.Matrices.{rows}
-use Rattle.mlp_params.specs.Parameters.{listed, block_size_of, output_shift, groups}
+use Rattle.mlp_params.specs.Parameters.{block_size_of, output_shift, groups}
 use Rattle.mlp_params.proofs.LawfulSteps.{parts, each_count}
 use Rattle.mlp_params.proofs.WritingChannels.{channels_parts}
-use Rattle.mlp_params.proofs.WritingGroups.{ends_with}
-use Rattle.mlp_params.specs.Allowed.{Allowed}
+use Rattle.mlp_layout.proofs.WritingGroups.{ends_with}
+use Rattle.mlp_layout.specs.Allowed.{Allowed}
 use Rattle.mlp_params.proofs.WritingParameters.{matrices_text, shifts_group, steps_group, channels_group}
 use Rattle.mlp_params.proofs.write_parameters.write_groups.Goals as goal
 

@@ -1,5 +1,5 @@
 use Rattle.mlp_params.specs.Matrices.{rows}
-use Rattle.mlp_params.proofs.WritingGroups.{some_allowed, writes_none, writes_some, flag_stops}
+use Rattle.mlp_layout.proofs.WritingGroups.{some_allowed, writes_none, writes_some, flag_stops}
 use Rattle.mlp_params.proofs.write_parameters.write_matrices_if.Goals as goal
 
 pub returns-in_err-put_flag-in-Some : goal.returns-in_err-put_flag-in-Some

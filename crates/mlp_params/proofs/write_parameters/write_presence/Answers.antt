@@ -1,5 +1,5 @@
 use Rattle.mlp_layout.specs.Layout.{number_of}
-use Rattle.mlp_params.proofs.WritingGroups.{writes_none, writes_some, flag_stops}
+use Rattle.mlp_layout.proofs.WritingGroups.{writes_none, writes_some, flag_stops}
 use Rattle.mlp_params.proofs.write_parameters.write_presence.Goals as goal
 
 pub returns-in_err-put_flag-in-Some : goal.returns-in_err-put_flag-in-Some

@@ -1,7 +1,8 @@
-use Rattle.mlp_params.specs.Parameters.{listed, output_shift}
+use Rattle.mlp_params.specs.Parameters.{output_shift}
+use Rattle.mlp_layout.specs.Combined.{listed}
 use Rattle.mlp_params.proofs.WritingParameters.{shifts_fit, shifts_text, listed_fits, listed_text}
 use Rattle.mlp_layout.proofs.WritingLaws.{writes_as}
-use Rattle.mlp_params.proofs.WritingGroups.{some_allowed, writes_none, writes_some, flag_stops, ends_with}
+use Rattle.mlp_layout.proofs.WritingGroups.{some_allowed, writes_none, writes_some, flag_stops, ends_with}
 use Rattle.mlp_params.proofs.write_parameters.write_shifts.Goals as goal
 
 pub returns-in_err-put_flag-in-Some : goal.returns-in_err-put_flag-in-Some

@@ -1,8 +1,8 @@
 use Rattle.mlp_layout.specs.Layout.{number_of}
-use Rattle.mlp_params.specs.Parameters.{listed}
+use Rattle.mlp_layout.specs.Combined.{listed}
 use Rattle.mlp_params.proofs.WritingParameters.{listed_fits, listed_text}
 use Rattle.mlp_layout.proofs.WritingLaws.{writes_as}
-use Rattle.mlp_params.proofs.WritingGroups.{some_allowed, writes_none, writes_some, flag_stops, ends_with}
+use Rattle.mlp_layout.proofs.WritingGroups.{some_allowed, writes_none, writes_some, flag_stops, ends_with}
 use Rattle.mlp_params.proofs.write_parameters.write_steps.Goals as goal
 
 pub returns-in_err-put_flag-in-Some : goal.returns-in_err-put_flag-in-Some

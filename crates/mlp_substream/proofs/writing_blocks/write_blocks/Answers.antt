@@ -1,7 +1,7 @@
 use Rattle.std.proofs.Common.{◌≡◌, ℕ, ◌+◌, ◌-◌, ◌++◌, eqb, length, take, drop, sym, subst, arith}
 use Rattle.std.proofs.lemmas.Result.{err_from_is_err_and}
 use Rattle.mlp_layout.specs.Combined.{flag}
-use Rattle.mlp_params.specs.Allowed.{Allowed}
+use Rattle.mlp_layout.specs.Allowed.{Allowed}
 use Rattle.mlp_substream.specs.Blocks.{Block, block}
 use Rattle.mlp_substream.specs.Segment.{unknown}
 use Rattle.mlp_substream.proofs.ReadingLaws.{at_of}

@@ -1,6 +1,9 @@
-use crate::{
+//! Bits read and written, and the checks, over bytes of a stereo stream at 48 kHz.
+
+use mlp_bits::laws::{law_read_back, law_remainder};
+use mlp_bits::{
     BitReader, BitWriter, Full, Short, check8, check16, nibble_parity, restart_check,
-    segment_parity, word_at,
+    segment_parity, signed_value, word_at,
 };
 
 /// A major sync of a stereo stream at 48 kHz, with its check.
@@ -17,6 +20,8 @@ const SEGMENT: [u8; 24] = [
 
 #[test]
 fn checks_of_a_stream(rt: HostRuntime) {
+    law_remainder();
+    law_read_back();
     assert_eq!(rt; check16(&SYNC[..26]), 0x6421);
     assert_eq!(rt; segment_parity(&SEGMENT[..22]), 0x38);
     assert_eq!(rt; check8(&SEGMENT[..22]), 0xC5);
@@ -55,6 +60,24 @@ fn fields_of_a_restart(rt: HostRuntime) {
     assert_eq!(rt; r.take_signed(8), Ok(-59));
     assert_eq!(rt; r.align16(), Ok(0));
     assert_eq!(rt; r.take(1), Err(Short));
+    assert_eq!(rt; signed_value(0xFFE, 12), -2);
+}
+
+/// Fields that end in each of the last nine bytes, and in a list of fewer than eight.
+#[test]
+fn fields_near_the_end(rt: HostRuntime) {
+    let mut r = BitReader::new(&SEGMENT);
+    r.skip(120);
+    assert_eq!(rt; r.take(12), Ok(0x039));
+    assert_eq!(rt; r.take(32), Ok(0x88A0_4008));
+    assert_eq!(rt; r.take(20), Ok(0x01038));
+    assert_eq!(rt; r.take(8), Ok(0xC5));
+    assert_eq!(rt; r.take(1), Err(Short));
+    let mut r = BitReader::new(&SEGMENT[..5]);
+    assert_eq!(rt; r.take(3), Ok(7));
+    assert_eq!(rt; r.take(32), Ok(0x8F50_7080));
+    assert_eq!(rt; r.take(5), Ok(1));
+    assert_eq!(rt; r.take(0), Ok(0));
 }
 
 #[test]

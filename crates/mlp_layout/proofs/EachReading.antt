@@ -1,14 +1,11 @@
 -- Reading a value for each item of a list, as a loop does.
-use Rattle.std.proofs.Common.{◌≡◌, ℕ, ◌+◌, ◌<◌, ◌≤◌, Bool, List, [], ◌∷◌, ◌++◌, length, drop, get_or, Ok, Err, refl, sym, ap, ◌∙◌, append_assoc}
+use Rattle.std.proofs.Common.{◌≡◌, ℕ, ◌+◌, ◌<◌, ◌≤◌, Bool, List, [], ◌∷◌, ◌++◌, length, drop, get_or, Ok, Err, refl, sym, ap, ◌∙◌}
 use Rattle.std.proofs.lemmas.List.{append-nil, drop_more, drop_all}
 use Rattle.mlp_syntax.specs.declared.fault.Broken.{Broken}
-use Rattle.mlp_layout.specs.Reading.{Read, ◌>>=◌, with_front}
+use Rattle.mlp_layout.specs.Reading.{Read, with_front}
 use Rattle.mlp_layout.specs.Layout.{Layout, item, made}
-use Rattle.mlp_params.specs.Parameters.{each}
-
-regroup : {A : Type 0} (front : List A) (x : A) (read : Read (List A)) → with_front front (read >>= λ xs. Ok (x ∷ xs.0, xs.1)) ≡ with_front (front ++ x ∷ []) read
-regroup front x (Ok xs) = ap (λ (ys : List _). Ok (ys, xs.1)) (simp append_assoc)
-regroup front x (Err e) = refl
+use Rattle.mlp_layout.specs.Combined.{each}
+use Rattle.mlp_layout.proofs.Repeated.{regroup}
 
 -- what is left to read gives the whole
 abbrev pub Continues : {S A : Type 0} → (S → Layout A) → List S → List A → List Bool → ℕ → Read (List A) → Type 0

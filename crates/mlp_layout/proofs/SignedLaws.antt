@@ -7,8 +7,8 @@ use mir.Val.{SFits, to_z, of_z}
 use mir.Syntax.{w16, w32}
 use Rattle.mlp_bits.specs.Bits.{bits}
 use Rattle.mlp_layout.specs.Layout.{seen, number_of, spelling_as, FitsAs}
-use Rattle.mlp_layout.specs.Combined.{signed, unsigned, signed_of}
-use Rattle.mlp_params.specs.Signed.{HasBits}
+use Rattle.mlp_layout.specs.Combined.{signed_of}
+use Rattle.mlp_bits.specs.Signed.{signed, unsigned, HasBits}
 
 pub fits_32 : (w : ℕ) (z : ℤ) → w ≤ 32 → HasBits w z → SFits w32 z
 fits_32 w (pos n) le h = let le31 : w - 1 ≤ 31 = omega arith in let m : 2 ^ (w - 1) ≤ 2 ^ 31 = pow_mono le31 in record { sfits = omega arith }

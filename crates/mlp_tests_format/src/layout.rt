@@ -1,12 +1,11 @@
 //! Values read and written. The bytes are those of a unit's head and of fields worked out by hand.
-ghost use Rattle.std.specs.Prelude.{◌≡◌};
 
-use crate::laws::law_numbers;
-use crate::{
+use mlp_bits::{BitReader, BitWriter};
+use mlp_layout::laws::law_numbers;
+use mlp_layout::{
     broken, byte, flag, number, put_all, put_flag, put_number, put_signed, put_wide, signed,
     signed_word, wide, word,
 };
-use mlp_bits::{BitReader, BitWriter};
 use mlp_syntax::Field;
 
 #[test]

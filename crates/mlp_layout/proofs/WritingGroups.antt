@@ -5,10 +5,9 @@ use Rattle.std.specs.List.{flat_map}
 use Rattle.std.proofs.lemmas.List.{append-nil}
 use Rattle.mlp_layout.specs.Layout.{Layout, seen, part, made}
 use Rattle.mlp_layout.specs.Combined.{flag, chosen, present, group}
-use Rattle.mlp_layout.specs.Writing.{Writes, field_bits}
+use Rattle.mlp_layout.specs.Writing.{Writes, field_bits, absent_text}
 use Rattle.mlp_layout.proofs.WritingLaws.{writes_as, then_writes, stops_writing}
-use Rattle.mlp_params.specs.Allowed.{Allowed}
-use Rattle.mlp_params.specs.Groups.{absent_text}
+use Rattle.mlp_layout.specs.Allowed.{Allowed}
 
 none_text : {A : Type 0} (there : Bool) (l : Layout A) → absent_text there ≡ (group there l).spelling None
 unfolding group chosen part present made
