@@ -1,45 +1,28 @@
 -- Where there is a schedule there is an earliest one, and units that are not too long begin at their turn.
 use Rattle.std.proofs.Common.{◌≡◌, ◌⊎◌, ℕ, zero, suc, ◌+◌, ◌-◌, ◌*◌, ◌<◌, ◌≤◌, max, arith, refl, sym, ◌∙◌, ap, subst, inl, inr}
-use Rattle.std.proofs.Math.Decide.{dec_lt, dec_le}
+use Rattle.std.proofs.Math.Decide.{dec_lt}
 use Rattle.std.proofs.lemmas.Nat.{mul-le}
 use Rattle.mlp_syntax.specs.declared.major.Kind.{Kind}
 use Rattle.mlp_syntax.specs.declared.major.Kind.TheVariants.{Fbb, Fba}
 use Rattle.mlp_fifo.specs.declared.pace.Pace.{Pace}
 use Rattle.mlp_fifo.specs.Pace.{unit_of, peak_of, size_of, pace_of, single_most}
 use Rattle.mlp_fifo.specs.Schedule.{out_of, duration_of, IsSchedule, IsEarliest, finish_of}
-use Rattle.mlp_fifo.specs.Load.{load}
-use Rattle.mlp_fifo.specs.Next.{IsNext}
-use Rattle.mlp_fifo.proofs.Loads.{load_late, sum_most}
+use Rattle.mlp_fifo.specs.Placed.{first_time}
+use Rattle.mlp_fifo.proofs.FirstTimes.{within, first_is}
+use Rattle.mlp_fifo.proofs.Loads.{load, load_late, sum_most}
 use Rattle.mlp_fifo.proofs.Schedules.{fewer, same_earliest, same_schedule, after, fits_at, extended}
-use Rattle.mlp_fifo.proofs.Next.{next_earliest, next_least, finish_least}
+use Rattle.mlp_fifo.proofs.Next.{IsNext, next_earliest, next_least, finish_least}
 use Rattle.mlp_fifo.proofs.Places.{with_next, with_before, with_last, finish_same}
-
--- the least number from x on at which a function is within a bound, where it is at some number
-found : (f : ℕ → ℕ) (bound fuel x : ℕ) → f (x + fuel) ≤ bound → (y : ℕ) × (x ≤ y) × (f y ≤ bound) × ((z : ℕ) → x ≤ z → f z ≤ bound → y ≤ z)
-found f bound zero x h = let e : x + zero ≡ x = omega arith in (x, omega arith, subst (λ y. f y ≤ bound) e h, λ z l m. l)
-found f bound (suc fuel) x h = elim (dec_le (f x) bound) [
-  | yes m ↦ (x, omega arith, m, λ z l k. l)
-  | no m ↦ (let e : x + suc fuel ≡ suc x + fuel = omega arith in
-      let r = found f bound fuel (suc x) (subst (λ y. f y ≤ bound) e h) in (
-        r.0,
-        omega (arith, r.1),
-        r.2,
-        λ z l k. elim (dec_lt x z) [
-          | yes n ↦ r.3 z n k
-          | no n ↦ absurd (let g : z ≡ x = omega arith in m (subst (λ y. f y ≤ bound) g k))
-        ],
-      ))
-]
 
 -- after an earliest schedule there is a least time for the next unit, where some time serves
 next_is : (p : Pace) (b : ℕ → ℕ) (n finish y : ℕ) → n * p.unit ≤ y → finish ≤ y → load p b (suc n) y ≤ p.size → (x : ℕ) × IsNext p b n finish x
 next_is p b n finish y start arrived fits =
     let lower : ℕ = max (n * p.unit) finish in
     let e : y ≡ lower + (y - lower) = omega arith in
-    let r = found (load p b (suc n)) p.size (y - lower) lower (subst (λ z. load p b (suc n) z ≤ p.size) e fits) in
-    (r.0, record { start = omega (arith, r.1); after = omega (arith, r.1); fits = r.2; least = λ z s a k. r.3 z (omega arith) k })
+    let r = first_is (load p b (suc n)) p.size (y - lower) lower (subst (λ z. load p b (suc n) z ≤ p.size) e fits) in
+    (first_time (within (load p b (suc n)) p.size) (y - lower) lower, record { start = omega (arith, r.start); after = omega (arith, r.start); fits = r.fits; least = λ z s a k. r.least z (omega arith) k })
 
-none_earliest : (p : Pace) (b : ℕ → ℕ) → IsEarliest p b (λ i. 0) 0
+pub none_earliest : (p : Pace) (b : ℕ → ℕ) → IsEarliest p b (λ i. 0) 0
 none_earliest p b = record {
   is_schedule = record { start = λ i h. absurd (omega arith); in_time = λ i h. absurd (omega arith); apart = λ i h. absurd (omega arith); room = λ time. omega arith };
   earliest = λ s q i h. absurd (omega arith);
@@ -96,7 +79,14 @@ turn_fits : (p : Pace) (b : ℕ → ℕ) (most n : ℕ) → IsSingle p most → 
 unfolding out_of
 turn_fits p b most n q h = elim (dec_lt n 90) [
   | yes l ↦ (let e : 0 + suc n ≡ suc n = omega arith in
-      omega (arith, ap (λ m. load p b m (n * 40)) e, load_late p b 0 (suc n) (n * 40) (λ i k. absurd (omega arith)), sum_most b most 0 (suc n) (λ i k. h (0 + i) (omega arith)), q.fits, mul-le (suc n) most 90 most (omega arith) (omega arith)))
+      omega (
+        arith,
+        ap (λ m. load p b m (n * 40)) e,
+        load_late p b 0 (suc n) (n * 40) (λ i k. absurd (omega arith)),
+        sum_most b most 0 (suc n) (λ i k. h (0 + i) (omega arith)),
+        q.fits,
+        mul-le (suc n) most 90 most (omega arith) (omega arith),
+      ))
   | no l ↦ (let e : n - 89 + 90 ≡ suc n = omega arith in
       omega (arith, ap (λ m. load p b m (n * 40)) e, load_late p b (n - 89) 90 (n * 40) (λ i k. output i k), sum_most b most (n - 89) 90 (λ i k. h (n - 89 + i) (omega arith)), q.fits))
 ]

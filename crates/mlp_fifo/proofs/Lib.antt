@@ -3,10 +3,14 @@ pub mod Schedules
 pub mod Next
 pub mod Sheds
 pub mod Paces
+pub mod Shown
+pub mod FirstTimes
 pub mod Begins
 pub mod Keeps
 pub mod Places
-pub mod FifoLemmas
+pub mod PlacedLaws
 pub mod LawLemmas
 pub mod TimedLemmas
+pub mod CheckedLaws
+pub mod FittingLaws
 pub mod ShorterLemmas

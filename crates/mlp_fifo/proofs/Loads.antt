@@ -1,11 +1,16 @@
 -- What has not been output falls as time goes on, and is a sum of the latest lengths.
 use Rattle.std.proofs.Common.{◌≡◌, ℕ, zero, suc, ◌+◌, ◌*◌, ◌<◌, ◌≤◌, arith, refl, ap, cond}
-use Rattle.std.specs.Prelude.{nat_lt}
+use Rattle.std.specs.Prelude.{nat_lt, if◌then◌else◌}
 use Rattle.std.proofs.lemmas.Bool.Decides.{nat_tests}
 use Rattle.std.proofs.lemmas.Nat.{mul-le}
 use Rattle.mlp_fifo.specs.declared.pace.Pace.{Pace}
 use Rattle.mlp_fifo.specs.Schedule.{out_of}
-use Rattle.mlp_fifo.specs.Load.{load, sum_from}
+use Rattle.mlp_fifo.specs.Load.{sum_from}
+
+-- the bytes of the first n units that have not been output at a time
+abbrev pub load : Pace → (ℕ → ℕ) → ℕ → ℕ → ℕ
+load p b zero time = 0
+load p b (suc n) time = load p b n time + (if nat_lt time (out_of p n) then b n else 0)
 
 -- later units are output later
 pub out_up : (p : Pace) (i j : ℕ) → i ≤ j → out_of p i ≤ out_of p j
@@ -37,7 +42,7 @@ load_same p b c (suc n) x h =
     let f = ap (λ z. cond (nat_lt x (out_of p n)) z 0) (h n (omega arith)) in
     omega (arith, e, f)
 
-none_left : (p : Pace) (b : ℕ → ℕ) (k x : ℕ) → ((i : ℕ) → i < k → out_of p i ≤ x) → load p b k x ≡ 0
+pub none_left : (p : Pace) (b : ℕ → ℕ) (k x : ℕ) → ((i : ℕ) → i < k → out_of p i ≤ x) → load p b k x ≡ 0
 none_left p b zero x h = refl
 none_left p b (suc k) x h = omega (arith, none_left p b k x (λ i l. h i (omega arith)), gone (out_of p k) (b k) x (h k (omega arith)))
 

@@ -1,10 +1,20 @@
 -- One unit more, after an earliest schedule.
-use Rattle.std.proofs.Common.{◌≡◌, ℕ, zero, suc, ◌+◌, ◌<◌, ◌≤◌, arith, subst}
+use Rattle.std.proofs.Common.{◌≡◌, ℕ, zero, suc, ◌+◌, ◌*◌, ◌<◌, ◌≤◌, arith, subst}
 use Rattle.std.proofs.Math.Decide.{dec_lt}
 use Rattle.mlp_fifo.specs.declared.pace.Pace.{Pace}
 use Rattle.mlp_fifo.specs.Schedule.{out_of, duration_of, IsSchedule, IsEarliest, finish_of}
-use Rattle.mlp_fifo.specs.Next.{IsNext}
+use Rattle.mlp_fifo.proofs.Loads.{load}
 use Rattle.mlp_fifo.proofs.Schedules.{fits_at, fewer, after, extended}
+
+-- x is the least time at which unit n may begin, where those before it have arrived at a finish
+pub record IsNext (p : Pace) (b : ℕ → ℕ) (n finish x : ℕ) : Type 0 where
+  pub start : n * p.unit ≤ x
+  pub after : finish ≤ x
+  pub fits : load p b (suc n) x ≤ p.size
+  pub least : (y : ℕ) → n * p.unit ≤ y → finish ≤ y → load p b (suc n) y ≤ p.size → x ≤ y
+
+pub next_only : (p : Pace) (b : ℕ → ℕ) (n finish x y : ℕ) → IsNext p b n finish x → IsNext p b n finish y → x ≡ y
+next_only p b n finish x y h k = omega (arith, h.least y k.start k.after k.fits, k.least x h.start h.after h.fits)
 
 -- the earliest schedule finishes no later than any
 pub finish_least : (p : Pace) (b t s : ℕ → ℕ) (n : ℕ) → IsEarliest p b t n → IsSchedule p b s n → finish_of p b t n ≤ finish_of p b s n

@@ -21,7 +21,7 @@ unfolding peak_of
 peak_positive Fbb rate h = let r = rate_bounds rate h in omega (arith, le-div 1 153599992 rate r.0 (omega (arith, r.1)))
 peak_positive Fba rate h = let r = rate_bounds rate h in omega (arith, le-div 1 287999992 rate r.0 (omega (arith, r.1)))
 
-unit_most : (rate : ℕ) → unit_of rate ≤ 160
+pub unit_most : (rate : ℕ) → unit_of rate ≤ 160
 unfolding unit_of
 unit_most rate = grind (arith, nat_tests)
 

@@ -6,13 +6,9 @@ use Rattle.std.proofs.lemmas.List.{get_or-drop, get_or_append_left, get_or_push,
 use Rattle.circular_buffer.specs.Buffer.{keep_last}
 use Rattle.mlp_fifo.specs.declared.pace.Pace.{Pace}
 use Rattle.mlp_fifo.specs.Schedule.{out_of, duration_of, IsSchedule, IsEarliest, finish_of}
-use Rattle.mlp_fifo.specs.Next.{IsNext}
-use Rattle.mlp_fifo.specs.Arrivals.{Shows}
+use Rattle.mlp_fifo.proofs.Shown.{index, Shows}
 use Rattle.mlp_fifo.proofs.Schedules.{same_earliest}
-use Rattle.mlp_fifo.proofs.Next.{next_none, next_earliest}
-
-abbrev pub index : List ℕ → ℕ → ℕ
-index xs i = get_or xs i 0
+use Rattle.mlp_fifo.proofs.Next.{IsNext, next_none, next_earliest}
 
 -- the latest of a history are those of the history and one unit more
 pub shown : (lengths latest : List ℕ) (bytes n : ℕ) → latest ≡ keep_last 91 lengths → n ≡ length lengths → Shows (index (lengths ++ bytes ∷ [])) latest n
@@ -68,10 +64,10 @@ before_is p lengths t bytes x q = same_earliest p (index lengths) (index (length
     (λ i l. get_or_append_left lengths (bytes ∷ []) 0 i l) (λ i l. with_before t (length lengths) x i l) q
 
 -- the unit that begins at the least time, where it is there in time
-pub placed : (p : Pace) (lengths : List ℕ) (t : ℕ → ℕ) (bytes n finish x : ℕ) → n ≡ length lengths → finish ≡ finish_of p (index lengths) t (length lengths)
+pub placed_next : (p : Pace) (lengths : List ℕ) (t : ℕ → ℕ) (bytes n finish x : ℕ) → n ≡ length lengths → finish ≡ finish_of p (index lengths) t (length lengths)
     → IsEarliest p (index lengths) t (length lengths) → IsNext p (index (lengths ++ bytes ∷ [])) n finish x → x + duration_of p bytes ≤ out_of p n
     → IsEarliest p (index (lengths ++ bytes ∷ [])) (with_next t (length lengths) x) (length (lengths ++ bytes ∷ []))
-placed p lengths t bytes n finish x e f q next ends =
+placed_next p lengths t bytes n finish x e f q next ends =
     let d = ap (duration_of p) (last_is lengths bytes (length lengths) refl) in
     let o = ap (out_of p) e in
     subst (IsEarliest p (index (lengths ++ bytes ∷ [])) (with_next t (length lengths) x)) (count_push lengths bytes)
@@ -79,10 +75,10 @@ placed p lengths t bytes n finish x e f q next ends =
     (next_over p lengths t bytes n finish x e f next) (omega arith))
 
 -- .. and where it isn't
-pub refused : (p : Pace) (lengths : List ℕ) (t : ℕ → ℕ) (bytes n finish x : ℕ) → n ≡ length lengths → finish ≡ finish_of p (index lengths) t (length lengths)
+pub refused_next : (p : Pace) (lengths : List ℕ) (t : ℕ → ℕ) (bytes n finish x : ℕ) → n ≡ length lengths → finish ≡ finish_of p (index lengths) t (length lengths)
     → IsEarliest p (index lengths) t (length lengths) → IsNext p (index (lengths ++ bytes ∷ [])) n finish x → out_of p n < x + duration_of p bytes
     → (s : ℕ → ℕ) → IsSchedule p (index (lengths ++ bytes ∷ [])) s (length (lengths ++ bytes ∷ [])) → ⊥
-refused p lengths t bytes n finish x e f q next late s r =
+refused_next p lengths t bytes n finish x e f q next late s r =
     let d = ap (duration_of p) (last_is lengths bytes (length lengths) refl) in
     let o = ap (out_of p) e in
     next_none p (index (lengths ++ bytes ∷ [])) (with_next t (length lengths) x) s (length lengths) x (before_is p lengths t bytes x q)

@@ -5,8 +5,7 @@ use Rattle.std.proofs.lemmas.Bool.Decides.{nat_tests}
 use Rattle.std.proofs.Math.Decide.{dec_lt, dec_le}
 use Rattle.mlp_fifo.specs.declared.pace.Pace.{Pace}
 use Rattle.mlp_fifo.specs.Schedule.{out_of, duration_of, held, IsSchedule, IsEarliest, finish_of}
-use Rattle.mlp_fifo.specs.Load.{load}
-use Rattle.mlp_fifo.proofs.Loads.{load_falls}
+use Rattle.mlp_fifo.proofs.Loads.{load, load_falls}
 
 -- where all have begun, what is held is the load
 begun_one : (o b t x : ℕ) → t ≤ x → cond (nat_le t x && nat_lt x o) b 0 ≡ cond (nat_lt x o) b 0

@@ -3,5 +3,7 @@ pub mod Schedule
 pub mod Load
 pub mod LeftFifo
 pub mod Arrivals
-pub mod Next
 pub mod Timed
+pub mod Placed
+pub mod Checked
+pub mod Fitting

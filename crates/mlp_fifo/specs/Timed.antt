@@ -1,12 +1,12 @@
 -- The timing of a stream: what the timings in its access units must be.
-use Rattle.std.specs.Prelude.{◌≡◌, ◌↔◌, ℕ, suc, ◌+◌, ◌*◌, ◌%◌, ◌<◌, ◌≤◌, Bool, List, length, map, slice_index_or, Option, None, IfSome, IsTrue}
+use Rattle.std.specs.Prelude.{◌≡◌, ◌↔◌, ℕ, ◌+◌, ◌*◌, ◌%◌, ◌<◌, ◌≤◌, Bool, Option, None, IfSome, IsTrue}
+use Rattle.std.specs.Prelude.{List, [], ◌∷◌, ◌++◌, length, map, slice_index_or}
 use Rattle.circular_buffer.specs.Buffer.{keep_last}
 use Rattle.mlp_syntax.specs.declared.major.Kind.{Kind}
 use Rattle.mlp_fifo.specs.declared.pace.Pace.{Pace}
 use Rattle.mlp_fifo.specs.declared.arrivals.Arrivals.{Arrivals}
 use Rattle.mlp_fifo.specs.Pace.{pace_of}
-use Rattle.mlp_fifo.specs.Schedule.{out_of, duration_of, IsSchedule, finish_of}
-use Rattle.mlp_fifo.specs.Load.{load}
+use Rattle.mlp_fifo.specs.Schedule.{out_of, IsSchedule, finish_of}
 
 -- what of an access unit the timing of a stream speaks of
 pub record TimedUnit : Type 0 where
@@ -58,7 +58,14 @@ pub record LeftChecker : Type 0 where
   pub timed : Bool
 
 abbrev pub checked_by : Arrivals → Bool → LeftChecker
-checked_by a timed = record { kind = a.kind; rate = a.rate; count = a.count; finish = a.finish; latest = a.latest.items; timed = timed }
+checked_by a timed = record {
+  kind = a.kind;
+  rate = a.rate;
+  count = a.count;
+  finish = a.finish;
+  latest = a.latest.items;
+  timed = timed;
+}
 
 -- what these units leave
 pub record LeavesTimed (kind : Kind) (rate : ℕ) (units : List TimedUnit) (left : LeftChecker) : Type 0 where
@@ -71,9 +78,29 @@ pub record LeavesTimed (kind : Kind) (rate : ℕ) (units : List TimedUnit) (left
   pub finish_is : left.finish ≡ finish_of (pace_of kind rate) (bytes_at (unit_at units)) times (length units)
   pub timed_is : IsTrue left.timed ↔ AreTimed kind rate units
 
--- unit n may begin at a time, where those before it have arrived at a finish, and has this output timing
-pub record Admits (p : Pace) (b : ℕ → ℕ) (n finish time : ℕ) (output : Option ℕ) : Type 0 where
-  pub after : finish ≤ time
-  pub fits : load p b (suc n) time ≤ p.size
-  pub in_time : time + duration_of p (b n) ≤ out_of p n
-  pub output_is : IfSome output (λ o. o ≡ out_of p n % 65536)
+-- what holds of each kind, rate and list of units that leave this
+abbrev pub EachTimed : LeftChecker → (Kind → ℕ → List TimedUnit → Type 0) → Type 0
+EachTimed left P =
+    (kind : Kind) (rate : ℕ) (units : List TimedUnit) → LeavesTimed kind rate units left → P kind rate units
+
+-- whether all of them and one more have the timing of a stream
+abbrev pub TellsTimed : LeftChecker → TimedUnit → Bool → Type 0
+TellsTimed left u timed = EachTimed left (λ kind rate units. IsTrue timed ↔ AreTimed kind rate (units ++ u ∷ []))
+
+-- what they and one more leave
+abbrev pub LeavesWith : LeftChecker → TimedUnit → LeftChecker → Type 0
+LeavesWith left u then_left = EachTimed left (λ kind rate units. LeavesTimed kind rate (units ++ u ∷ []) then_left)
+
+-- ---- what is owed
+
+-- at most one list of times has the timings of given units
+abbrev pub HasOneTiming : Type 0
+HasOneTiming =
+    (p : Pace) (u : ℕ → TimedUnit) (t s : ℕ → ℕ) (n : ℕ)
+    → HasTimes p u t n → HasTimes p u s n → (i : ℕ) → i < n → t i ≡ s i
+
+-- timings stay those of a stream where units get shorter
+abbrev pub ShorterIsTimed : Type 0
+ShorterIsTimed =
+    (p : Pace) (u v : ℕ → TimedUnit) (n : ℕ)
+    → 0 < p.peak → ((i : ℕ) → i < n → IsShorter (v i) (u i)) → IsTimed p u n → IsTimed p v n

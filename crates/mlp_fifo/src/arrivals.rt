@@ -1,11 +1,9 @@
 //! The units that have arrived, and which of the latest may still be held.
-ghost use Rattle.std.specs.Prelude.{◌≡◌, ℕ, suc, ◌+◌, ◌-◌, ◌*◌, ◌^◌, ◌<◌, ◌≤◌, min, max, [], ◌∷◌, ◌++◌, length, slice_index, IfOk};
+ghost use Rattle.std.specs.Prelude.{◌≡◌, suc, ◌+◌, ◌-◌, ◌*◌, ◌^◌, ◌<◌, ◌≤◌, min, max};
+ghost use Rattle.std.specs.Prelude.{[], ◌∷◌, ◌++◌, length, slice_index};
 ghost use Rattle.circular_buffer.specs.Buffer.{keep_last};
 ghost use Rattle.mlp_fifo.specs.Pace.{IsRate, IsUsual, pace_of};
-ghost use Rattle.mlp_fifo.specs.Schedule.{out_of};
-ghost use Rattle.mlp_fifo.specs.Load.{sum_from};
-ghost use Rattle.mlp_fifo.specs.Next.{IsNext};
-ghost use Rattle.mlp_fifo.specs.Arrivals.{IsHeld, IsShed, IsGone, Shows};
+ghost use Rattle.mlp_fifo.specs.Arrivals.{IsHeld, IsShed, IsGone, time_with_shed};
 
 use crate::pace::Pace;
 use circular_buffer::HeapCircularBuffer;
@@ -65,8 +63,7 @@ fn first_of(latest: &HeapCircularBuffer<u32>, units: usize) -> u32
 
 /// Gives up the first of the units held until those that are left are within the size, with `bytes` more.
 fn shed(latest: &HeapCircularBuffer<u32>, held: Held, bytes: u32, size: u32) -> Held
-    requires units { held.units ≤ length latest.now.items }
-    requires sum { held.bytes ≡ sum_from (slice_index latest.now.items) (length latest.now.items - held.units) held.units }
+    requires held { IsHeld latest.now.items held }
     requires within { (held.bytes ≤ size) × (bytes ≤ size) × (size ≤ 120000) }
     ensures { IsShed latest.now.items held bytes size result }
 {
@@ -96,12 +93,13 @@ fn recent(latest: &HeapCircularBuffer<u32>, held: Held) -> Held
     }
 }
 
-/// The least time for a unit after this many, where the last has arrived at a finish and some of those held are given up.
+/// The least time for a unit after this many, where the last has arrived at a finish and some of those held are
+/// given up.
 fn time_after(pace: Pace, count: u64, finish: u64, held: Held, left: Held) -> u64
     requires usual { IsUsual pace × (count ≤ 2 ^ 40) × (finish < 2 ^ 50) }
     requires units { (left.units ≤ held.units) × (held.units ≤ count) }
     ensures kept { left.units ≡ held.units → result ≡ max (count * pace.unit) finish }
-    ensures shed { left.units < held.units → result ≡ max (max (count * pace.unit) finish) (out_of pace (count - suc left.units)) }
+    ensures shed { left.units < held.units → result ≡ time_with_shed pace count finish left }
     ensures below { result < 2 ^ 50 }
 {
     let lower = pace.start(count).max(finish);
@@ -112,10 +110,15 @@ fn time_after(pace: Pace, count: u64, finish: u64, held: Held, left: Held) -> u6
 }
 
 impl Arrivals {
+    ghost use Rattle.std.specs.Prelude.{IfOk};
+    ghost use Rattle.mlp_fifo.specs.Placed.{begins, emptied};
+    ghost use Rattle.mlp_fifo.specs.LeftFifo.{left_by, OthersAreOut};
+
     /// No unit yet.
     pub fn open(alloc: Global, kind: Kind, rate: u32) -> Result<Arrivals, Memory>
         requires { IsRate rate }
-        ensures { IfOk result (λ a. (a.kind ≡ kind) × (a.rate ≡ rate) × (a.count ≡ 0) × (a.finish ≡ 0) × (a.latest.items ≡ []) × (a.held.units ≡ 0)) }
+        ensures is { IfOk result (λ a. left_by a ≡ emptied kind rate) }
+        ensures none { IfOk result (λ a. a.held.units ≡ 0) }
     {
         let latest = HeapCircularBuffer::with_capacity(alloc, KEPT).map_err(|_| Memory)?;
         Ok(Arrivals {
@@ -132,8 +135,8 @@ impl Arrivals {
     /// No unit any more.
     pub fn reset(&mut self, kind: Kind, rate: u32)
         requires { IsRate rate }
-        ensures kind { (self.new.kind ≡ kind) × (self.new.rate ≡ rate) }
-        ensures none { (self.new.count ≡ 0) × (self.new.finish ≡ 0) × (self.new.latest.items ≡ []) × (self.new.held.units ≡ 0) }
+        ensures is { left_by self.new ≡ emptied kind rate }
+        ensures none { self.new.held.units ≡ 0 }
     {
         self.latest.clear();
         self.kind = kind;
@@ -148,10 +151,10 @@ impl Arrivals {
     pub fn next(&self, bytes: u32) -> Begin
         requires bytes { bytes ≤ 8190 }
         requires count { self.now.count < 2 ^ 40 }
-        requires gone { IsGone self.now.pace self.now.count self.now.finish self.now.held.units }
+        requires out { OthersAreOut self.now }
         ensures held { IsShed self.now.latest.items self.now.held bytes self.now.pace.size result.held }
         ensures gone { IsGone self.now.pace self.now.count result.time result.held.units }
-        ensures next { (b : ℕ → ℕ) → Shows b self.now.latest.items self.now.count → b self.now.count ≡ bytes → IsNext self.now.pace b self.now.count self.now.finish result.time }
+        ensures is { result.time ≡ begins (left_by self.now) bytes }
         ensures start { self.now.count * self.now.pace.unit ≤ result.time }
         ensures below { result.time < 2 ^ 50 }
     {
@@ -166,7 +169,8 @@ impl Arrivals {
         requires held { IsHeld self.old.latest.items held }
         requires fits { held.bytes + bytes ≤ self.old.pace.size }
         requires finish { finish < 2 ^ 50 }
-        ensures same { (self.new.kind ≡ self.old.kind) × (self.new.rate ≡ self.old.rate) × (self.new.pace ≡ self.old.pace) }
+        ensures stream { (self.new.kind ≡ self.old.kind) × (self.new.rate ≡ self.old.rate) }
+        ensures pace { self.new.pace ≡ self.old.pace }
         ensures count { self.new.count ≡ self.old.count + 1 }
         ensures finish { self.new.finish ≡ finish }
         ensures latest { self.new.latest.items ≡ keep_last 91 (self.old.latest.items ++ bytes ∷ []) }

@@ -1,9 +1,10 @@
 //! The check of a stream's timings, one access unit at a time.
-ghost use Rattle.std.specs.Prelude.{◌≡◌, ◌↔◌, ℕ, ◌+◌, ◌*◌, ◌%◌, List, ◌<◌, ◌≤◌, ◌^◌, [], ◌∷◌, ◌++◌, IfOk, IfSome, IfNone, IsTrue};
-ghost use Rattle.mlp_syntax.specs.declared.major.Kind.{Kind};
+ghost use Rattle.std.specs.Prelude.{◌≡◌, ◌↔◌, ◌+◌, ◌*◌, ◌%◌, ◌<◌, ◌≤◌, ◌^◌, ◌&&◌, [], IfOk, IfSome, IsTrue, is_some};
 ghost use Rattle.mlp_fifo.specs.Pace.{IsRate};
-ghost use Rattle.mlp_fifo.specs.Arrivals.{IsHeld, IsGone, Shows};
-ghost use Rattle.mlp_fifo.specs.Timed.{Admits, AreTimed, LeavesTimed, TimedUnit};
+ghost use Rattle.mlp_fifo.specs.LeftFifo.{OthersAreOut};
+ghost use Rattle.mlp_fifo.specs.Arrivals.{IsHeld, IsGone};
+ghost use Rattle.mlp_fifo.specs.Timed.{LeavesTimed, TellsTimed, LeavesWith, checked_by};
+ghost use Rattle.mlp_fifo.specs.Checked.{empty_checker, time_with_low, is_output, admits, checked_after};
 
 use crate::arrivals::{Arrivals, Held};
 use mlp_syntax::{Kind, Memory};
@@ -19,22 +20,23 @@ pub struct Checker {
 
 impl Model for Checker {
     ghost use Rattle.std.specs.Prelude.{IsTrue};
-    ghost use Rattle.mlp_fifo.specs.Arrivals.{IsGone};
+    ghost use Rattle.mlp_fifo.specs.LeftFifo.{OthersAreOut};
     ghost use Rattle.mlp_fifo.specs.Timed.{LeftChecker, checked_by};
 
     ghost Value = { LeftChecker };
 
     ghost view = { λ c. checked_by c.arrivals c.timed };
 
-    ghost invariant = { λ c. IsTrue c.timed → IsGone c.arrivals.pace c.arrivals.count c.arrivals.finish c.arrivals.held.units };
+    ghost invariant = { λ c. IsTrue c.timed → OthersAreOut c.arrivals };
 }
 
 /// The time from `start` on, and less than 2^16 later, whose low 16 bits are these.
+#[tactic(auto, unfolding(crate::specs::Checked::time_with_low))]
 fn time_from(start: u64, low: u16) -> u64
     requires { start < 2 ^ 48 }
+    ensures is { result ≡ time_with_low start low }
     ensures least { start ≤ result }
     ensures below { result < start + 65536 }
-    ensures low { result % 65536 ≡ low }
 {
     let low = u64::from(low);
     let before = start % 65536;
@@ -47,7 +49,7 @@ fn time_from(start: u64, low: u16) -> u64
 
 /// Whether an output timing, if there is one, is the low 16 bits of when the unit is output.
 fn is_output(output: Option<u16>, out: u64) -> bool
-    ensures { IsTrue result ↔ IfSome output (λ o. o ≡ out % 65536) }
+    ensures { result ≡ is_output output out }
 {
     match output {
         Some(timing) => u64::from(timing) == out % 65536,
@@ -58,30 +60,29 @@ fn is_output(output: Option<u16>, out: u64) -> bool
 /// The units that may still be held as a unit begins, where it and those before it have the timing of a stream.
 fn admitted(
     timed: bool,
-    arrivals: &Arrivals,
+    before: &Arrivals,
     time: u64,
     output: Option<u16>,
     bytes: u32,
 ) -> Option<Held>
     requires bytes { bytes ≤ 8190 }
-    requires count { arrivals.now.count < 2 ^ 40 }
-    requires time { (arrivals.now.count * arrivals.now.pace.unit ≤ time) × (time < 2 ^ 49) }
-    requires gone { IsTrue timed → IsGone arrivals.now.pace arrivals.now.count arrivals.now.finish arrivals.now.held.units }
-    ensures held { IfSome result (λ held. IsHeld arrivals.now.latest.items held × (held.bytes + bytes ≤ arrivals.now.pace.size)) }
-    ensures gone { IfSome result (λ held. IsGone arrivals.now.pace arrivals.now.count time held.units) }
-    ensures timed { IfSome result (λ held. IsTrue timed) }
-    ensures some { (b : ℕ → ℕ) → Shows b arrivals.now.latest.items arrivals.now.count → b arrivals.now.count ≡ bytes → IfSome result (λ held. Admits arrivals.now.pace b arrivals.now.count arrivals.now.finish time output) }
-    ensures none { (b : ℕ → ℕ) → Shows b arrivals.now.latest.items arrivals.now.count → b arrivals.now.count ≡ bytes → IsTrue timed → Admits arrivals.now.pace b arrivals.now.count arrivals.now.finish time output → IfNone result ⊥ }
+    requires count { before.now.count < 2 ^ 40 }
+    requires time { (before.now.count * before.now.pace.unit ≤ time) × (time < 2 ^ 49) }
+    requires out { IsTrue timed → OthersAreOut before.now }
+    ensures held { IfSome result (IsHeld before.now.latest.items) }
+    ensures fits { IfSome result (λ held. held.bytes + bytes ≤ before.now.pace.size) }
+    ensures gone { IfSome result (λ held. IsGone before.now.pace before.now.count time held.units) }
+    ensures is { is_some result ≡ (timed && admits before.now.pace (checked_by before.now timed) time bytes output) }
 {
     if !timed {
         return None;
     }
-    let begin = arrivals.next(bytes);
+    let begin = before.next(bytes);
     if time < begin.time {
         return None;
     }
-    let out = arrivals.pace.output(arrivals.count);
-    if out < time + arrivals.pace.duration(bytes) {
+    let out = before.pace.output(before.count);
+    if out < time + before.pace.duration(bytes) {
         return None;
     }
     if !is_output(output, out) {
@@ -94,7 +95,8 @@ impl Checker {
     /// No unit yet, of a stream of this kind at one of the six rates. It takes all memory that it ever needs.
     pub fn open(alloc: Global, kind: Kind, rate: u32) -> Result<Checker, Memory>
         requires { IsRate rate }
-        ensures { IfOk result (LeavesTimed kind rate []) }
+        ensures is { IfOk result (λ c. c ≡ empty_checker kind rate) }
+        ensures left { IfOk result (LeavesTimed kind rate []) }
     {
         let arrivals = Arrivals::open(alloc, kind, rate)?;
         Ok(Checker {
@@ -106,7 +108,8 @@ impl Checker {
     /// Forgets all units, for a stream of this kind at one of the six rates. It takes no memory.
     pub fn reset(&mut self, kind: Kind, rate: u32)
         requires { IsRate rate }
-        ensures { LeavesTimed kind rate [] self.new }
+        ensures is { self.new ≡ empty_checker kind rate }
+        ensures left { LeavesTimed kind rate [] self.new }
     {
         self.arrivals.reset(kind, rate);
         self.timed = true;
@@ -117,10 +120,12 @@ impl Checker {
     pub fn unit(&mut self, input: u16, output: Option<u16>, bytes: u32) -> bool
         requires bytes { bytes ≤ 8190 }
         requires count { self.old.count < 2 ^ 40 }
-        ensures timed { (kind : Kind) (rate : ℕ) (units : List TimedUnit) → LeavesTimed kind rate units self.old → (IsTrue result ↔ AreTimed kind rate (units ++ record { input = input; output = output; bytes = bytes } ∷ [])) }
-        ensures left { (kind : Kind) (rate : ℕ) (units : List TimedUnit) → LeavesTimed kind rate units self.old → LeavesTimed kind rate (units ++ record { input = input; output = output; bytes = bytes } ∷ []) self.new }
+        ensures step { self.new ≡ checked_after self.old (record { input = input; output = output; bytes = bytes }) }
+        ensures timed { TellsTimed self.old (record { input = input; output = output; bytes = bytes }) result }
+        ensures left { LeavesWith self.old (record { input = input; output = output; bytes = bytes }) self.new }
         ensures same { result ≡ self.new.timed }
-        ensures counts { (self.new.kind ≡ self.old.kind) × (self.new.rate ≡ self.old.rate) × (self.new.count ≡ self.old.count + 1) }
+        ensures stream { (self.new.kind ≡ self.old.kind) × (self.new.rate ≡ self.old.rate) }
+        ensures counts { self.new.count ≡ self.old.count + 1 }
     {
         let pace = self.arrivals.pace;
         let time = time_from(pace.start(self.arrivals.count), input);

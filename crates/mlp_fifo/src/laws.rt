@@ -1,11 +1,15 @@
 //! What holds of the definitions.
-ghost use Rattle.std.specs.Prelude.{◌≡◌, ◌⊎◌, ◌<◌, ◌≤◌, ◌*◌, [], ◌∷◌, ℕ, map};
+ghost use Rattle.std.specs.Prelude.{◌≡◌, [], ◌∷◌, ℕ, map};
 ghost use Rattle.mlp_syntax.specs.declared.major.Kind.{Kind};
 ghost use Rattle.mlp_syntax.specs.declared.major.Kind.TheVariants.{Fbb, Fba};
-ghost use Rattle.mlp_fifo.specs.declared.pace.Pace.{Pace};
-ghost use Rattle.mlp_fifo.specs.Pace.{rates, unit_of, peak_of, pace_of, single_most};
-ghost use Rattle.mlp_fifo.specs.Schedule.{duration_of, IsSchedule, IsEarliest};
-ghost use Rattle.mlp_fifo.specs.Timed.{TimedUnit, HasTimes, IsTimed, IsShorter};
+ghost use Rattle.mlp_fifo.specs.Pace.{rates, unit_of, peak_of};
+ghost use Rattle.mlp_fifo.specs.Schedule.{DurationIsEnough, DurationIsLeast, HasEarliest, EarliestIsOne};
+ghost use Rattle.mlp_fifo.specs.Schedule.{EarliestBegins, SingleRatesTakeTurns, ShorterIsSchedule};
+ghost use Rattle.mlp_fifo.specs.LeftFifo.{Leaves};
+ghost use Rattle.mlp_fifo.specs.Timed.{LeavesTimed, HasOneTiming, ShorterIsTimed};
+ghost use Rattle.mlp_fifo.specs.Placed.{emptied, EachPlaced, AllPlaced, AllHaveRoom};
+ghost use Rattle.mlp_fifo.specs.Checked.{empty_checker, EachChecked};
+ghost use Rattle.mlp_fifo.specs.Fitting.{FittingIsTimed};
 
 /// The access units and peak data rates of the six rates.
 #[tactic(auto, unfolding(crate::specs::Pace::unit_of, crate::specs::Pace::peak_of))]
@@ -18,30 +22,50 @@ pub fn law_rates()
 /// A unit's duration is the least number of sample periods in which its bits come at the peak data rate.
 #[tactic(auto, unfolding(crate::specs::Schedule::duration_of))]
 pub fn law_duration()
-    ensures enough { (p : Pace) (bytes : ℕ) → 0 < p.peak → 128 * bytes ≤ duration_of p bytes * p.peak }
-    ensures least { (p : Pace) (bytes d : ℕ) → 0 < p.peak → 128 * bytes ≤ d * p.peak → duration_of p bytes ≤ d }
+    ensures enough { DurationIsEnough }
+    ensures least { DurationIsLeast }
 {}
 
 /// Where units have a schedule they have an earliest one, which has one list of times. It begins with the earliest
 /// schedule of the units before.
 pub fn law_earliest()
-    ensures exists { (p : Pace) (b s : ℕ → ℕ) (n : ℕ) → IsSchedule p b s n → (t : ℕ → ℕ) × IsEarliest p b t n }
-    ensures only { (p : Pace) (b t u : ℕ → ℕ) (n : ℕ) → IsEarliest p b t n → IsEarliest p b u n → (i : ℕ) → i < n → t i ≡ u i }
-    ensures prefix { (p : Pace) (b t : ℕ → ℕ) (m n : ℕ) → m ≤ n → IsEarliest p b t n → IsEarliest p b t m }
+    ensures exists { HasEarliest }
+    ensures only { EarliestIsOne }
+    ensures prefix { EarliestBegins }
 {}
 
 /// At 44100 and 48000 samples a second units that are not too long each begin at their turn, and there is always room.
 pub fn law_single_rates()
-    ensures { (kind : Kind) (rate : ℕ) (b : ℕ → ℕ) (n : ℕ) → (rate ≡ 44100) ⊎ (rate ≡ 48000) → ((i : ℕ) → i < n → b i ≤ single_most kind) → IsEarliest (pace_of kind rate) b (λ i. i * 40) n }
+    ensures { SingleRatesTakeTurns }
 {}
 
 /// At most one list of times has the timings of given units.
 pub fn law_one_timing()
-    ensures { (p : Pace) (u : ℕ → TimedUnit) (t s : ℕ → ℕ) (n : ℕ) → HasTimes p u t n → HasTimes p u s n → (i : ℕ) → i < n → t i ≡ s i }
+    ensures { HasOneTiming }
 {}
 
 /// A schedule stays one, and timings stay those of a stream, where units get shorter.
 pub fn law_shorter()
-    ensures schedule { (p : Pace) (b c t : ℕ → ℕ) (n : ℕ) → 0 < p.peak → ((i : ℕ) → i < n → c i ≤ b i) → IsSchedule p b t n → IsSchedule p c t n }
-    ensures timed { (p : Pace) (u v : ℕ → TimedUnit) (n : ℕ) → 0 < p.peak → ((i : ℕ) → i < n → IsShorter (v i) (u i)) → IsTimed p u n → IsTimed p v n }
+    ensures schedule { ShorterIsSchedule }
+    ensures timed { ShorterIsTimed }
+{}
+
+/// Placing units one after the other gives the times of their earliest schedule, or refuses the first that has no room:
+/// then the units up to it have no schedule, and those before it have one.
+pub fn law_placed()
+    ensures none { (kind : Kind) (rate : ℕ) → Leaves kind rate [] (emptied kind rate) }
+    ensures each { EachPlaced }
+    ensures all { AllPlaced }
+    ensures room { AllHaveRoom }
+{}
+
+/// What a checked unit leaves is what the units so far leave.
+pub fn law_checked()
+    ensures none { (kind : Kind) (rate : ℕ) → LeavesTimed kind rate [] (empty_checker kind rate) }
+    ensures each { EachChecked }
+{}
+
+/// Timings of the earliest schedule are those of a stream.
+pub fn law_fitting()
+    ensures { FittingIsTimed }
 {}

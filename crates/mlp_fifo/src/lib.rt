@@ -10,9 +10,7 @@ mod pace;
 pub use checker::Checker;
 pub use fifo::Fifo;
 pub use laws::{
-    law_duration, law_earliest, law_one_timing, law_rates, law_shorter, law_single_rates,
+    law_checked, law_duration, law_earliest, law_fitting, law_one_timing, law_placed, law_rates,
+    law_shorter, law_single_rates,
 };
 pub use pace::{Pace, peak};
-
-#[cfg(test)]
-mod tests;

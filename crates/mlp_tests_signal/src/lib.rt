@@ -4,4 +4,6 @@
 #[cfg(test)]
 mod arith;
 #[cfg(test)]
+mod fifo;
+#[cfg(test)]
 mod io;

@@ -1,9 +1,10 @@
-use Rattle.std.proofs.Common.{true, refl}
-use Rattle.mlp_fifo.specs.Timed.{checked_by}
-use Rattle.mlp_fifo.proofs.TimedLemmas.{none_timed}
+use Rattle.std.proofs.Common.{[], true, sym, ap, subst}
+use Rattle.mlp_fifo.specs.Timed.{LeavesTimed}
+use Rattle.mlp_fifo.proofs.CheckedLaws.{none_timed, with_timed}
 use Rattle.mlp_fifo.proofs.checker.Checker.reset.Goals as goal
 
-pub returns : goal.returns
-returns c =
-    let e = c.reset.ensures in
-    none_timed c.args.kind c.args.rate (checked_by c.reset.new.self true) e.kind.0 e.kind.1 e.none.0 e.none.1 e.none.2 refl
+pub returns-clause-is : goal.returns-clause-is
+returns-clause-is c = ap (with_timed true) c.reset.ensures.is
+
+pub returns-clause-left : goal.returns-clause-left
+returns-clause-left c = subst (LeavesTimed c.args.kind c.args.rate []) (sym (ap (with_timed true) c.reset.ensures.is)) (none_timed c.args.kind c.args.rate)

@@ -1,8 +1,9 @@
-use Rattle.std.proofs.Common.{false, refl, arith, sym, subst}
-use Rattle.std.proofs.lemmas.Bool.{false≢true}
-use Rattle.mlp_fifo.specs.Timed.{TimedUnit, LeavesTimed, checked_by}
-use Rattle.mlp_fifo.proofs.FifoLemmas.{still_gone}
-use Rattle.mlp_fifo.proofs.TimedLemmas.{shown_then, last_then, timed_then, not_timed, leaves_timed}
+use Rattle.std.proofs.Common.{◌≡◌, ◌↔◌, Bool, true, false, [], ◌∷◌, ◌++◌, arith, sym, ◌∙◌, ap, subst}
+use Rattle.std.proofs.lemmas.Bool.{and_parts}
+use Rattle.mlp_fifo.specs.Timed.{TimedUnit, AreTimed, LeavesTimed, checked_by}
+use Rattle.mlp_fifo.specs.Checked.{time_with_low, checked_after}
+use Rattle.mlp_fifo.proofs.Keeps.{still_gone}
+use Rattle.mlp_fifo.proofs.CheckedLaws.{checked_is, checked_leaves}
 use Rattle.mlp_fifo.proofs.checker.Checker.unit.Goals as goal
 
 pub invariant_of-self : goal.invariant_of-self
@@ -10,54 +11,43 @@ invariant_of-self c timed =
     let a = c.self.inside.arrivals in
     let k = c.keep.ensures in
     let e = c.time_from-time.ensures in
-    still_gone a c.keep.new.self c.time_from-time.result c.in-Some.held.units k.same.2 k.count (omega (arith, k.finish)) k.units c.in-Some.ensures.held.0.units_most (omega (arith, e.least, c.start.ensures.is)) c.in-Some.ensures.gone
+    still_gone a c.keep.new.self c.time_from-time.result c.in-Some.held.units k.pace k.count (omega (arith, k.finish)) k.units c.in-Some.ensures.held.units_most (omega (arith, e.least, c.start.ensures.is)) c.in-Some.ensures.gone
 
-pub returns-in-Some-clause-timed : goal.returns-in-Some-clause-timed
-returns-in-Some-clause-timed c kind rate units l =
+pub returns-in-Some-clause-step : goal.returns-in-Some-clause-step
+returns-in-Some-clause-step c =
     let v : TimedUnit = record { input = c.args.input; output = c.args.output; bytes = c.args.bytes } in
     let a = c.self.inside.arrivals in
-    let h = subst (LeavesTimed kind rate units) (sym c.self.view_is) l in
-    let x = c.time_from-time.result in
-    let e = c.time_from-time.ensures in
-    let s = shown_then a c.self.inside.timed kind rate units v x h in
-    let w = last_then a c.self.inside.timed kind rate units v x h in
-    (λ t. timed_then a c.self.inside.timed kind rate units v x h (omega (arith, e.least, c.start.ensures.is)) (omega (arith, e.below, c.start.ensures.is)) e.low c.in-Some.ensures.timed (c.in-Some.ensures.some _ s w), λ t. refl)
+    let k = c.keep.ensures in
+    let t = (and_parts _ _ (sym c.in-Some.ensures.is)).0 in
+    checked_is a c.self.inside.timed v (checked_by c.keep.new.self c.self.inside.timed) c.time_from-time.result (c.time_from-time.ensures.is ∙ ap (λ s. time_with_low s c.args.input) c.start.ensures.is)
+    k.stream.0 k.stream.1 k.count (omega (arith, k.finish, c.duration.ensures.is)) k.latest (t ∙ c.in-Some.ensures.is) ∙ ap (λ o. checked_after o v) c.self.view_is
 
 pub returns-in-Some-clause-left : goal.returns-in-Some-clause-left
 returns-in-Some-clause-left c kind rate units l =
     let v : TimedUnit = record { input = c.args.input; output = c.args.output; bytes = c.args.bytes } in
-    let a = c.self.inside.arrivals in
-    let h = subst (LeavesTimed kind rate units) (sym c.self.view_is) l in
-    let x = c.time_from-time.result in
-    let e = c.time_from-time.ensures in
-    let k = c.keep.ensures in
-    let s = shown_then a c.self.inside.timed kind rate units v x h in
-    let w = last_then a c.self.inside.timed kind rate units v x h in
-    leaves_timed a c.self.inside.timed kind rate units v x h (checked_by c.keep.new.self c.self.inside.timed) (omega (arith, e.least, c.start.ensures.is)) (omega (arith, e.below, c.start.ensures.is)) e.low
-    k.same.0 k.same.1 k.count (omega (arith, k.finish, c.duration.ensures.is)) k.latest
-    (λ t. timed_then a c.self.inside.timed kind rate units v x h (omega (arith, e.least, c.start.ensures.is)) (omega (arith, e.below, c.start.ensures.is)) e.low c.in-Some.ensures.timed (c.in-Some.ensures.some _ s w), λ t. c.in-Some.ensures.timed)
+    subst (LeavesTimed kind rate (units ++ v ∷ [])) (sym (returns-in-Some-clause-step c)) (checked_leaves kind rate units _ v l (omega arith))
 
-pub returns-clause-timed : goal.returns-clause-timed
-returns-clause-timed c kind rate units l =
+pub returns-in-Some-clause-timed : goal.returns-in-Some-clause-timed
+returns-in-Some-clause-timed c kind rate units l =
+    let v : TimedUnit = record { input = c.args.input; output = c.args.output; bytes = c.args.bytes } in
+    let t = (and_parts _ _ (sym c.in-Some.ensures.is)).0 in
+    subst (λ (b : Bool). (b ≡ true) ↔ AreTimed kind rate (units ++ v ∷ [])) t (returns-in-Some-clause-left c kind rate units l).timed_is
+
+pub returns-in-Some-clause-same : goal.returns-in-Some-clause-same
+returns-in-Some-clause-same c = sym (and_parts _ _ (sym c.in-Some.ensures.is)).0
+
+pub returns-clause-step : goal.returns-clause-step
+returns-clause-step c =
     let v : TimedUnit = record { input = c.args.input; output = c.args.output; bytes = c.args.bytes } in
     let a = c.self.inside.arrivals in
-    let h = subst (LeavesTimed kind rate units) (sym c.self.view_is) l in
-    let x = c.time_from-time.result in
-    let e = c.time_from-time.ensures in
-    let s = shown_then a c.self.inside.timed kind rate units v x h in
-    let w = last_then a c.self.inside.timed kind rate units v x h in
-    (λ t. absurd (false≢true t), λ t. absurd (not_timed a c.self.inside.timed kind rate units v x h (omega (arith, e.least, c.start.ensures.is)) (omega (arith, e.below, c.start.ensures.is)) e.low (c.in_default.ensures.none _ s w) t))
+    let k = c.keep-2.ensures in
+    checked_is a c.self.inside.timed v (checked_by c.keep-2.new.self false) c.time_from-time.result (c.time_from-time.ensures.is ∙ ap (λ s. time_with_low s c.args.input) c.start.ensures.is)
+    k.stream.0 k.stream.1 k.count (omega (arith, k.finish, c.duration.ensures.is)) k.latest c.in_default.ensures.is ∙ ap (λ o. checked_after o v) c.self.view_is
 
 pub returns-clause-left : goal.returns-clause-left
 returns-clause-left c kind rate units l =
     let v : TimedUnit = record { input = c.args.input; output = c.args.output; bytes = c.args.bytes } in
-    let a = c.self.inside.arrivals in
-    let h = subst (LeavesTimed kind rate units) (sym c.self.view_is) l in
-    let x = c.time_from-time.result in
-    let e = c.time_from-time.ensures in
-    let k = c.keep-2.ensures in
-    let s = shown_then a c.self.inside.timed kind rate units v x h in
-    let w = last_then a c.self.inside.timed kind rate units v x h in
-    leaves_timed a c.self.inside.timed kind rate units v x h (checked_by c.keep-2.new.self false) (omega (arith, e.least, c.start.ensures.is)) (omega (arith, e.below, c.start.ensures.is)) e.low
-    k.same.0 k.same.1 k.count (omega (arith, k.finish, c.duration.ensures.is)) k.latest
-    (λ t. absurd (false≢true t), λ t. absurd (not_timed a c.self.inside.timed kind rate units v x h (omega (arith, e.least, c.start.ensures.is)) (omega (arith, e.below, c.start.ensures.is)) e.low (c.in_default.ensures.none _ s w) t))
+    subst (LeavesTimed kind rate (units ++ v ∷ [])) (sym (returns-clause-step c)) (checked_leaves kind rate units _ v l (omega arith))
+
+pub returns-clause-timed : goal.returns-clause-timed
+returns-clause-timed c kind rate units l = (returns-clause-left c kind rate units l).timed_is

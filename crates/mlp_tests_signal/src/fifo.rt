@@ -1,6 +1,6 @@
 ghost use Rattle.std.specs.Prelude.{◌+◌, ◌^◌, ◌<◌, ◌≤◌};
 
-use super::*;
+use mlp_fifo::{Checker, Fifo, Pace, peak};
 use mlp_syntax::{Kind, Memory, NoRoom};
 
 /// Places units of one length, and answers the last one's time.
@@ -17,13 +17,9 @@ fn place_all(fifo: &mut Fifo, units: u64, bytes: u32) -> Result<i64, NoRoom>
 }
 
 #[test]
-fn a_unit_takes_its_bits_at_the_peak_rate(rt: HostRuntime) {
-    assert_eq!(rt; Pace::of(Kind::Fba, 48000).duration(1000), 22);
-    assert_eq!(rt; Pace::of(Kind::Fba, 96000).duration(4000), 171);
-}
-
-#[test]
 fn long_units_wait_for_room(rt: HostRuntime) -> Result<(), Memory> {
+    assert_eq!(rt; peak(Kind::Fba, 96000), 2999);
+    assert_eq!(rt; Pace::of(Kind::Fbb, 192000).peak, 799);
     let mut fifo = Fifo::open(rt.alloc(), Kind::Fba, 96000)?;
     let times = [
         place_all(&mut fifo, 30, 4000),
@@ -38,6 +34,7 @@ fn long_units_wait_for_room(rt: HostRuntime) -> Result<(), Memory> {
             bytes: 4000
         })
     );
+    assert_eq!(rt; fifo.next_output(), 11600);
     fifo.reset(Kind::Fba, 48000);
     assert_eq!(rt; place_all(&mut fifo, 1640, 1000), Ok(65560));
     Ok(())
