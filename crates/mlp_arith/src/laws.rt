@@ -20,7 +20,8 @@ pub fn law_clear()
     ensures add { (q : ℕ) (v k : ℤ) → clear q (v +ℤ k *ℤ pos (2 ^ q)) ≡ clear q v +ℤ k *ℤ pos (2 ^ q) }
 
     // A sample without low bits is made again from what is left of it above its cleared prediction.
-    ensures back { (q : ℕ) (p x : ℤ) → clear q x ≡ x → FitsSigned w32 x → wrap (clear q (p +ℤ (x -ℤ clear q p))) ≡ x }
+    ensures back { (q : ℕ) (p x : ℤ) → clear q x ≡ x → FitsSigned w32 x →
+        wrap (clear q (p +ℤ (x -ℤ clear q p))) ≡ x }
 {}
 
 /// A wrapped value is the only one of its range and remainder, and it doesn't matter when sums and products are wrapped.

@@ -1,3 +1,5 @@
 pub mod Weights
 pub mod Rows
 pub mod Lifts
+pub mod Noises
+pub mod Fronts

@@ -41,7 +41,8 @@ made_again q y f b l fits e =
     ap (λ z. wrap (z +ℤ b)) cleared ∙ ap wrap (let r : clear q y +ℤ k *ℤ pos 4294967296 +ℤ b ≡ y +ℤ k *ℤ pos 4294967296 = omega (arith, ints, e) in r) ∙ wrap_multiple y k ∙ int_wrap_fits w32 y fits
 
 -- the row with weight 1 on its destination makes the old value of what `row_undone` gives
-pub undone_applied : (ws xs : List ℤ) (d q : ℕ) (bit : Bool) (y : ℤ) → d < length ws → length ws ≤ length xs → q < 16 → FitsSigned w32 y → get_or ws d (pos 0) ≡ pos 16384 → y ≡ clear q y +ℤ bit_of bit → row_value ws q bit (set xs d (lifted ws d q xs y)) ≡ y
+pub undone_applied : (ws xs : List ℤ) (d q : ℕ) (bit : Bool) (y : ℤ) → d < length ws → length ws ≤ length xs → q < 16 → FitsSigned w32 y →
+    get_or ws d (pos 0) ≡ pos 16384 → y ≡ clear q y +ℤ bit_of bit → row_value ws q bit (set xs d (lifted ws d q xs y)) ≡ y
 undone_applied ws xs d q bit y h k l fits one e =
     let s : ℤ = dot ws (set xs d (pos 0)) in
     let u : ℤ = lifted ws d q xs y in

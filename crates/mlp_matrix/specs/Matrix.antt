@@ -79,6 +79,15 @@ is_even (negsuc n) = n % 2 == 1
 abbrev pub bypassed : Bool → ℕ → ℤ → Bool
 bypassed bypass step y = bypass && (step == 1) && not (is_even y)
 
+-- a frame with the value from which the row makes the one that stands at its destination
+abbrev pub row_undone : MatrixRow → ℕ → List ℤ → List ℤ
+row_undone row step frame =
+    slice_set frame row.dest (lifted (weights row) row.dest step frame (slice_index_or frame row.dest (pos 0)))
+
+-- .. and the bit that the row adds there
+abbrev pub bit_undone : MatrixRow → ℕ → List ℤ → Bool
+bit_undone row step frame = bypassed row.bypass step (slice_index_or frame row.dest (pos 0))
+
 -- ---- what may be handed in: it holds of all that a stream can carry
 
 -- a row for so many channels, whose weights have 16 signed bits
@@ -98,4 +107,6 @@ pub record AreRows (rows : List MatrixRow) (steps : List ℕ) (channels : ℕ) :
 -- a row that can be undone at a frame: weight 1 at its destination, and no low bits there but a bypassed one
 pub record IsLift (row : MatrixRow) (step : ℕ) (frame : List ℤ) : Type 0 where
   pub one : slice_index_or (weights_of row.frac row.coeffs.items) row.dest (pos 0) ≡ pos 16384
-  pub cleared : slice_index_or frame row.dest (pos 0) ≡ clear step (slice_index_or frame row.dest (pos 0)) +ℤ bit_of (bypassed row.bypass step (slice_index_or frame row.dest (pos 0)))
+  pub cleared :
+      slice_index_or frame row.dest (pos 0)
+      ≡ clear step (slice_index_or frame row.dest (pos 0)) +ℤ bit_of (bit_undone row step frame)

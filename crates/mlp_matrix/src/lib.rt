@@ -2,6 +2,7 @@
 //! Source: the MLP substream syntax and decoding process as publicly documented.
 #![tactic(auto)]
 
+pub mod laws;
 mod matrix;
 mod noise;
 mod row;
@@ -10,6 +11,3 @@ mod undo;
 pub use matrix::{apply, apply_block};
 pub use noise::Noise;
 pub use undo::undo_lift;
-
-#[cfg(test)]
-mod tests;

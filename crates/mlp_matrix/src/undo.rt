@@ -1,8 +1,8 @@
 //! A row undone.
 
-ghost use Rattle.std.specs.Prelude.{◌≡◌, ◌<◌, ◌≤◌, ◌^◌, length, pos, neg_ℤ, ◌≤ℤ◌, ◌-ℤ◌, not, slice_index_or, slice_set};
+ghost use Rattle.std.specs.Prelude.{◌≡◌, ◌<◌, ◌≤◌, ◌^◌, pos, neg_ℤ, ◌≤ℤ◌, ◌-ℤ◌, not};
 ghost use Rattle.mlp_arith.specs.Words.{floor_by, clear, wrap};
-ghost use Rattle.mlp_matrix.specs.Matrix.{weights, lifted, weighted, bypassed, is_even, IsRow, IsLift};
+ghost use Rattle.mlp_matrix.specs.Matrix.{weights, weighted, bypassed, is_even, row_undone, bit_undone, IsRow, IsLift};
 
 use crate::row::weights;
 use mlp_arith::{clear, floor_by, wrap};
@@ -45,8 +45,8 @@ pub fn undo_lift(row: &MatrixRow, step: u8, frame: &mut [i32; 10]) -> bool
     requires row { IsRow 8 row.now }
     requires lift { IsLift row.now step frame.old }
     requires step { step < 16 }
-    ensures bit { result ≡ bypassed row.now.bypass step (slice_index_or frame.old row.now.dest (pos 0)) }
-    ensures value { frame.new ≡ slice_set frame.old row.now.dest (lifted (weights row.now) row.now.dest step frame.old (slice_index_or frame.old row.now.dest (pos 0))) }
+    ensures bit { result ≡ bit_undone row.now step frame.old }
+    ensures value { frame.new ≡ row_undone row.now step frame.old }
 
     // The row with the answered bit gives back the old frame.
     ensures back { weighted (weights row.now) row.now.dest step result frame.new ≡ frame.old }

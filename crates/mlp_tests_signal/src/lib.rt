@@ -7,3 +7,5 @@ mod arith;
 mod fifo;
 #[cfg(test)]
 mod io;
+#[cfg(test)]
+mod matrix;

@@ -16,6 +16,29 @@ returns c =
     let lo : (c.floor_by.result *ℤ pos 16384) ≤ℤ c.args.sum = rw g (floor_le c.args.sum 16384 (omega arith)) in
     let hi : c.args.sum <ℤ (c.floor_by.result *ℤ pos 16384 +ℤ pos 16384) = rw g (lt_floor c.args.sum 16384 (omega arith)) in
     let k : c.clear.result ≡ clear c.args.step c.floor_by.result = c.clear.ensures ∙ ap (clear c.args.step) (to_z-of_z w64 c.floor_by.result f) in
-    let s : FitsSigned w64 (c.clear.result +ℤ c.bit_of.result) = rw k (omega (arith, ints, clear_le c.args.step c.floor_by.result, lt_clear c.args.step c.floor_by.result, c.bit_of.ensures.low, c.bit_of.ensures.high, c.requires.low, c.requires.high, f, lo, hi, pow-lt {j = 16} c.requires.step)) in
+    let s : FitsSigned w64 (c.clear.result +ℤ c.bit_of.result) = rw k
+    (omega (
+      arith,
+      ints,
+      clear_le c.args.step c.floor_by.result,
+      lt_clear c.args.step c.floor_by.result,
+      c.bit_of.ensures.low,
+      c.bit_of.ensures.high,
+      c.requires.low,
+      c.requires.high,
+      f,
+      lo,
+      hi,
+      pow-lt {j = 16} c.requires.step,
+    )) in
     let e : FitsSigned w32 c.wrap.result = record { sfits = c.wrap.type_inv } in
-    cc (to_z-of_z w64 c.args.sum c.ranges.sum, to_z-of_z w64 c.floor_by.result f, to_z-of_z w64 c.clear.result d, to_z-of_z w64 c.bit_of.result b, to_z-of_z w64 (c.clear.result +ℤ c.bit_of.result) s, to_z-of_z w32 c.wrap.result e, c.floor_by.ensures, c.clear.ensures, c.bit_of.ensures.value, c.wrap.ensures)
+    cc (
+      to_z-of_z w64 c.clear.result d,
+      to_z-of_z w64 c.bit_of.result b,
+      to_z-of_z w64 (c.clear.result +ℤ c.bit_of.result) s,
+      to_z-of_z w32 c.wrap.result e,
+      c.floor_by.ensures,
+      c.clear.ensures,
+      c.bit_of.ensures.value,
+      c.wrap.ensures,
+    )

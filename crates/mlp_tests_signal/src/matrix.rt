@@ -2,8 +2,8 @@
 
 ghost use Rattle.std.specs.Prelude.{◌≡◌, ◌≤◌, length};
 
-use crate::{Noise, apply, apply_block, undo_lift};
 use arrayvec::ArrayVec;
+use mlp_matrix::{Noise, apply, apply_block, undo_lift};
 use mlp_syntax::MatrixRow;
 
 /// A row with these coefficients.
@@ -27,6 +27,7 @@ fn row(dest: u8, frac: u8, bypass: bool, fields: &[Option<i32>]) -> MatrixRow
     }
 }
 
+/// The noise of seed 1, by hand: one frame at a time, at once, and behind the channels of a frame.
 #[test]
 fn gives_noise(rt: HostRuntime) {
     let mut noise = Noise { seed: 1 };
@@ -35,21 +36,21 @@ fn gives_noise(rt: HostRuntime) {
     assert_eq!(rt; noise.next(), (2, 0));
     assert_eq!(rt; noise.seed, 0x4200);
     assert_eq!(rt; noise.next(), (0, -124));
+
+    let mut noise = Noise { seed: 1 };
+    noise.skip(2);
+    assert_eq!(rt; noise.seed, 0x4200);
+
+    let mut noise = Noise { seed: 0x10000 };
+    let mut frames = [[7; 10]; 2];
+    noise.put_each(3, 2, &mut frames);
+    assert_eq!(rt; frames[0], [7, 7, 16, 0, 7, 7, 7, 7, 7, 7]);
+    assert_eq!(rt; frames[1], [7, 7, 0, -992, 7, 7, 7, 7, 7, 7]);
 }
 
+/// Two rows over two channels, where the second one sees what the first one made, and a bit that is added and taken back.
 #[test]
-fn adds_a_bit_and_takes_it_back(rt: HostRuntime) {
-    let rows = [row(2, 0, true, &[None, None, Some(1)])];
-    let mut frame = [0, 0, 6, 0, 0, 0, 0, 0, 0, 0];
-    apply(&rows, &[0, 0, 1], 3, &mut frame, 1);
-    assert_eq!(rt; frame, [0, 0, 7, 0, 0, 0, 0, 0, 0, 0]);
-    assert_eq!(rt; undo_lift(&rows[0], 1, &mut frame), true);
-    assert_eq!(rt; frame, [0, 0, 6, 0, 0, 0, 0, 0, 0, 0]);
-}
-
-/// Two rows over two channels: the second one sees what the first one made.
-#[test]
-fn applies_rows_in_order(rt: HostRuntime) {
+fn applies_and_undoes_rows(rt: HostRuntime) {
     let rows = [
         row(0, 1, false, &[Some(1), Some(1)]),
         row(1, 0, true, &[Some(1), Some(1)]),
@@ -63,11 +64,13 @@ fn applies_rows_in_order(rt: HostRuntime) {
         [4, 4, 0, 0, 0, 0, 0, 0, 0, 0],
     ];
     apply_block(&rows, &[0, 1], 2, &mut frames, &[2, 0]);
-    assert_eq!(rt;
-        frames,
-        [
-            [-2, -9, 0, 0, 0, 0, 0, 0, 0, 0],
-            [4, 8, 0, 0, 0, 0, 0, 0, 0, 0]
-        ]
-    );
+    assert_eq!(rt; frames[0], [-2, -9, 0, 0, 0, 0, 0, 0, 0, 0]);
+    assert_eq!(rt; frames[1], [4, 8, 0, 0, 0, 0, 0, 0, 0, 0]);
+
+    let rows = [row(2, 0, true, &[None, None, Some(1)])];
+    let mut frame = [0, 0, 6, 0, 0, 0, 0, 0, 0, 0];
+    apply(&rows, &[0, 0, 1], 3, &mut frame, 1);
+    assert_eq!(rt; frame, [0, 0, 7, 0, 0, 0, 0, 0, 0, 0]);
+    assert_eq!(rt; undo_lift(&rows[0], 1, &mut frame), true);
+    assert_eq!(rt; frame, [0, 0, 6, 0, 0, 0, 0, 0, 0, 0]);
 }

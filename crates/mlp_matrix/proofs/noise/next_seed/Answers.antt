@@ -1,10 +1,10 @@
 use Rattle.std.proofs.Common.{◌≡◌, ℕ, ◌*◌, ◌/◌, ◌%◌, ◌^◌, ◌<◌, arith, bit_xor}
 use Rattle.std.proofs.lemmas.Nat.{and_mask}
-use Rattle.mlp_matrix.proofs.noise.Noise.next.Goals as goal
+use Rattle.mlp_matrix.proofs.noise.next_seed.Goals as goal
 
-pub returns-clause-seed : goal.returns-clause-seed
-returns-clause-seed c =
-    let s : ℕ = c.args.self.now.seed in
+pub returns-clause-value : goal.returns-clause-value
+returns-clause-value c =
+    let s : ℕ = c.args.seed in
     let small : s < 2 ^ 23 = c.requires in
     let low : s % 128 * 65536 % 4294967296 ≡ s % 128 * 65536 = omega arith in
     let high : s / 128 * 32 % 4294967296 ≡ s / 128 * 32 = omega arith in
