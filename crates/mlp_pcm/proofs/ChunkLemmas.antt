@@ -54,7 +54,8 @@ head_then n seen head rest l =
 
 -- why a chunk's content didn't come whole
 pub content_ends : (a b : Option (List ℕ)) (taken count : ℕ) (seen : Option Format) (head : List ℕ) (e : WaveRefusal) → starts_with nat_eq head (codes "data") ≡ false → count ≡ padded (number_at 4 4 head) → Stops a b taken count Chunk e → Ends a b taken (ContentSays seen head) e
-content_ends a b taken count seen head Read h l s = tt
+content_ends a b taken count seen head Read h l (xs, k, small, within) =
+    (xs, k, within, Chunk, λ n. chunk_short (chunks n) seen head xs h (omega arith))
 content_ends a b taken count seen head (Header field) h l (f, (xs, k, q, small, within)) =
     (xs, k, within, inr ((λ n. chunk_short (chunks n) seen head xs h (omega arith) ∙ ap unfinished (sym f)), q))
 content_ends a b taken count seen head TooLong h l (xs, x, k, small, all) =

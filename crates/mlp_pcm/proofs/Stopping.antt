@@ -5,7 +5,8 @@ use Rattle.std.specs.Io.KnownBytes.{Consumes}
 use Rattle.mlp_syntax.specs.declared.refusal.WaveField.{WaveField}
 use Rattle.mlp_pcm.specs.declared.wave_bytes.WaveRefusal.{WaveRefusal}
 use Rattle.mlp_pcm.specs.declared.wave_bytes.WaveRefusal.TheVariants.{Read, Header, TooLong}
-use Rattle.mlp_pcm.specs.WaveBytes.{Stops, limit}
+use Rattle.mlp_io.specs.Limit.{limit}
+use Rattle.mlp_pcm.specs.WaveBytes.{Stops}
 
 pub consumes_then : (a b c : Option (List ℕ)) (xs ys : List ℕ) → Consumes a b xs → Consumes b c ys → Consumes a c (xs ++ ys)
 consumes_then None b c xs ys h k = tt
@@ -19,7 +20,8 @@ with_last ys room h = sym (take_more ys room 0 (omega arith)) ∙ take_all (room
 
 pub stops_after : (a b c : Option (List ℕ)) (xs : List ℕ) (taken at count m : ℕ) (short : WaveField) (e : WaveRefusal) → Consumes a b xs → at ≡ taken + length xs → length xs + m ≤ count
     → Stops b c at m short e → Stops a c taken count short e
-stops_after a b c xs taken at count m short Read h n l s = tt
+stops_after a b c xs taken at count m short Read h n l (ys, k, small, within) =
+    (xs ++ ys, consumes_then a b c xs ys h k, omega (arith, length-append xs ys), omega (arith, length-append xs ys))
 stops_after a b c xs taken at count m short (Header field) h n l (f, (ys, k, q, small, within)) =
     (f, (xs ++ ys, consumes_then a b c xs ys h k, q, omega (arith, length-append xs ys), omega (arith, length-append xs ys)))
 stops_after a b c xs taken at count m short TooLong h n l (ys, y, k, small, all) =

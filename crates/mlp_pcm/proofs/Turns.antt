@@ -24,7 +24,8 @@ turns a b c xs taken at whole left (Ok turn) h l step t = turn_after a b c xs ta
 turns a b c xs taken at whole left (Err e) h l step t = tt
 
 pub ends_after : (a b c : Option (List ℕ)) (xs : List ℕ) (taken at : ℕ) (Whole Left : List ℕ → Answer → Type 0) (e : WaveRefusal) → Consumes a b xs → at ≡ taken + length xs → ((ys : List ℕ) (says : Answer) → Left ys says → Whole (xs ++ ys) says) → Ends b c at Left e → Ends a c taken Whole e
-ends_after a b c xs taken at Whole Left Read h l step s = tt
+ends_after a b c xs taken at Whole Left Read h l step (ys, k, w, field, m) =
+    (xs ++ ys, consumes_then a b c xs ys h k, omega (arith, length-append xs ys), field, step ys (unfinished field) m)
 ends_after a b c xs taken at Whole Left (Header field) h l step (ys, k, w, inl m) = (xs ++ ys, consumes_then a b c xs ys h k, omega (arith, length-append xs ys), inl (step ys (refused field) m))
 ends_after a b c xs taken at Whole Left (Header field) h l step (ys, k, w, inr (m, q)) = (xs ++ ys, consumes_then a b c xs ys h k, omega (arith, length-append xs ys), inr (step ys (unfinished field) m, q))
 ends_after a b c xs taken at Whole Left TooLong h l step (ys, y, k, w, field, m) =
@@ -36,7 +37,7 @@ ends_result a b c xs taken at Whole Left (Err e) h l step s = ends_after a b c x
 
 -- bytes that are too few
 pub stops_ends : (a b : Option (List ℕ)) (taken count : ℕ) (short : WaveField) (Whole : List ℕ → Answer → Type 0) (e : WaveRefusal) → ((xs : List ℕ) → length xs < count → Whole xs (unfinished short)) → Stops a b taken count short e → Ends a b taken Whole e
-stops_ends a b taken count short Whole Read step s = tt
+stops_ends a b taken count short Whole Read step (xs, k, small, within) = (xs, k, within, short, step xs small)
 stops_ends a b taken count short Whole (Header field) step (f, (xs, k, q, small, within)) = (xs, k, within, inr (subst (λ g. Whole xs (unfinished g)) (sym f) (step xs small), q))
 stops_ends a b taken count short Whole TooLong step (xs, x, k, small, all) = (xs, x, k, all, short, step xs small)
 

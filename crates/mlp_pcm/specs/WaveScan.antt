@@ -1,8 +1,9 @@
 -- What the first bytes of an input say, read as the header of a WAVE file.
-use Rattle.std.specs.Prelude.{◌≡◌, ◌⊎◌, ℕ, zero, suc, ◌+◌, ◌≤◌, ◌&&◌, min, nat_lt, nat_eq, Bool, List, [], ◌∷◌, ◌++◌, length, take, drop, codes, Option, None, Some, Ok, Err, is_none, if◌then◌else◌, ⊤}
+use Rattle.std.specs.Prelude.{◌≡◌, ◌↔◌, ◌⊎◌, ℕ, zero, suc, ◌+◌, ◌≤◌, ◌<◌, ◌&&◌, min, nat_lt, nat_eq, Bool, List, [], ◌∷◌, ◌++◌, length, take, drop, codes, Option, None, Some, Ok, Err, is_none, if◌then◌else◌}
 use Rattle.std.specs.declared.result.Result.{Result}
 use Rattle.std.specs.List.{starts_with}
 use Rattle.std.specs.Io.KnownBytes.{Consumes, IsAtEnd}
+use Rattle.mlp_io.specs.Limit.{limit}
 use Rattle.mlp_syntax.specs.declared.refusal.WaveField.{WaveField}
 use Rattle.mlp_syntax.specs.declared.refusal.WaveField.TheVariants.{Riff, Chunk, FmtMissing}
 use Rattle.mlp_pcm.specs.declared.wave_format.Format.{Format}
@@ -11,7 +12,6 @@ use Rattle.mlp_pcm.specs.declared.wave_bytes.WaveRefusal.TheVariants.{Read, Head
 use Rattle.mlp_pcm.specs.declared.wave_chunks.Turn.{Turn}
 use Rattle.mlp_pcm.specs.declared.wave_chunks.Turn.TheVariants.{Data, Passed}
 use Rattle.mlp_pcm.specs.declared.wave_reader.WaveInfo.{WaveInfo}
-use Rattle.mlp_pcm.specs.WaveBytes.{limit}
 use Rattle.mlp_pcm.specs.WaveHeader.{padded}
 use Rattle.mlp_pcm.specs.WaveFormat.{number_at, judged}
 
@@ -63,6 +63,11 @@ header n bytes =
 abbrev pub Says : List ℕ → Answer → Type 0
 Says bytes answer = (n : ℕ) × (header n bytes ≡ answer)
 
+-- bytes are unfinished at RIFF exactly where they are fewer than 12, and else at a chunk
+pub record UnfinishedWhereCut (bytes : List ℕ) : Type 0 where
+  pub riff : Says bytes (unfinished Riff) ↔ (length bytes < 12)
+  pub chunk : (field : WaveField) → Says bytes (unfinished field) → 12 ≤ length bytes → field ≡ Chunk
+
 -- What a chunk was: the bytes taken for it, and what all bytes say by those behind them. `meaning n` looks at n chunks more.
 abbrev pub IsTurn : Option (List ℕ) → Option (List ℕ) → ℕ → (ℕ → List ℕ → Answer) → Turn → Type 0
 IsTurn before after taken meaning (Data format size at) =
@@ -70,9 +75,11 @@ IsTurn before after taken meaning (Data format size at) =
 IsTurn before after taken meaning (Passed format at) =
     (xs : List ℕ) × Consumes before after xs × (at ≡ taken + length xs) × (at ≤ limit) × ((n : ℕ) (rest : List ℕ) → meaning n (xs ++ rest) ≡ chunks n format rest)
 
--- Why there was none: a wrong field, the end of the input inside, or the limit with one byte more inside.
+-- Why there was none: a failed read inside, a wrong field, the end of the input inside, or the limit with one byte more inside. The
+-- bytes taken were consumed.
 abbrev pub Ends : Option (List ℕ) → Option (List ℕ) → ℕ → (List ℕ → Answer → Type 0) → WaveRefusal → Type 0
-Ends before after taken Meaning Read = ⊤
+Ends before after taken Meaning Read =
+    (xs : List ℕ) × Consumes before after xs × (taken + length xs ≤ limit) × (field : WaveField) × Meaning xs (unfinished field)
 Ends before after taken Meaning (Header field) =
     (xs : List ℕ) × Consumes before after xs × (taken + length xs ≤ limit) × (Meaning xs (refused field) ⊎ (Meaning xs (unfinished field) × IsAtEnd after))
 Ends before after taken Meaning TooLong =

@@ -1,5 +1,6 @@
 //! What holds of PCM as bytes, and of the headers of WAVE files.
 ghost use Rattle.std.specs.Prelude.{ℕ, List};
+ghost use Rattle.mlp_pcm.specs.WaveScan.{UnfinishedWhereCut};
 ghost use Rattle.mlp_pcm.specs.WaveFile.{BeginsWhereWave, RefusedWhereWrong, HasOneAnswer, StaysSo, WrittenIsRead};
 ghost use Rattle.mlp_pcm.specs.Samples.{PackedIsUnpacked, UnpackedAreRows, UnpackedIsPacked};
 
@@ -15,12 +16,13 @@ pub fn law_samples()
 /// Bytes say that a header begins exactly where they are RIFF, a size, WAVE, chunks of which the first that is named `fmt `
 /// says the format, and the head of the data; and that a field is wrong exactly where the first 12 bytes have other words, or
 /// the data or a format that is refused comes first. Each list of bytes has one answer, and bytes behind a header, or behind
-/// a wrong field, change nothing.
+/// a wrong field, change nothing. Where bytes are neither so far, fewer than 12 are cut inside RIFF, and others inside a chunk.
 pub fn law_header()
     ensures begins { BeginsWhereWave }
     ensures refused { RefusedWhereWrong }
     ensures one { (bytes : List ℕ) → HasOneAnswer bytes }
     ensures stays { StaysSo }
+    ensures unfinished { (bytes : List ℕ) → UnfinishedWhereCut bytes }
 {}
 
 /// A header that was written is read back, whatever stands behind it.

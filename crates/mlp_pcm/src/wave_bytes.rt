@@ -1,14 +1,12 @@
 //! Bytes of a header, taken from a source up to a limit.
-ghost use Rattle.std.specs.Prelude.{◌≡◌, ◌+◌, ◌^◌, ◌≤◌, ◌<◌, ◌++◌, List, ℕ, length, IfOk, IfErr};
-ghost use Rattle.std.specs.Io.KnownBytes.{Consumes};
-ghost use Rattle.mlp_pcm.specs.WaveBytes.{Stops, IsCaused, the_refusal};
+ghost use Rattle.std.specs.Prelude.{◌≡◌, ◌+◌, ◌^◌, ◌≤◌, ◌<◌, length, IfOk, IfErr};
+ghost use Rattle.mlp_io.specs.Limit.{limit};
+ghost use Rattle.mlp_io.specs.Causes.{IsCause};
+ghost use Rattle.mlp_pcm.specs.WaveBytes.{Takes, TakesCount, Stops, is_read_fault, the_refusal};
 ghost use Rattle.mlp_syntax.specs.declared.refusal.WaveField.TheVariants.{Chunk};
 
-use mlp_io::{Source, fill};
+use mlp_io::{LIMIT, Source, fill};
 use mlp_syntax::WaveField;
-
-/// How many bytes a header may have.
-const LIMIT: u64 = 1 << 40;
 
 /// Why a header can't be read.
 #[derive(Clone, Copy, Debug, PartialEq, Eq)]
@@ -28,10 +26,10 @@ fn take_within<S: Source>(
     buf: &mut [u8],
     short: WaveField,
 ) -> Result<u64, WaveRefusal>
-    requires room { taken + length buf.old ≤ 2 ^ 40 }
-    ensures ok { IfOk result (λ n. (n ≡ taken + length buf.new) × (n ≤ 2 ^ 40) × Consumes (S.left source.old) (S.left source.new) buf.new) }
+    requires room { taken + length buf.old ≤ limit }
+    ensures ok { IfOk result (Takes (S.left source.old) (S.left source.new) taken buf.new) }
     ensures err { IfErr result (Stops (S.left source.old) (S.left source.new) taken (length buf.old) short) }
-    ensures cause { IsCaused (S.faults source.old) (S.faults source.new) result }
+    ensures cause { IsCause (is_read_fault result) (S.faults source.old) (S.faults source.new) }
 {
     let size = buf.len();
     match fill(source, buf) {
@@ -47,10 +45,10 @@ fn take_within<S: Source>(
 
 /// Reads up to the limit and one byte more, where the buffer would go past it.
 fn take_past<S: Source>(source: &mut S, taken: u64, buf: &mut [u8], short: WaveField) -> WaveRefusal
-    requires taken { taken ≤ 2 ^ 40 }
-    requires room { 2 ^ 40 < taken + length buf.old }
+    requires taken { taken ≤ limit }
+    requires room { limit < taken + length buf.old }
     ensures stops { Stops (S.left source.old) (S.left source.new) taken (length buf.old) short result }
-    ensures cause { IsCaused (S.faults source.old) (S.faults source.new) (the_refusal result) }
+    ensures cause { IsCause (is_read_fault (the_refusal result)) (S.faults source.old) (S.faults source.new) }
 {
     let room = (LIMIT - taken) as usize;
     match fill(source, &mut buf[..room + 1]) {
@@ -71,11 +69,11 @@ pub fn take<S: Source>(
     buf: &mut [u8],
     short: WaveField,
 ) -> Result<u64, WaveRefusal>
-    requires taken { taken ≤ 2 ^ 40 }
+    requires taken { taken ≤ limit }
     requires small { length buf.old ≤ 1024 }
-    ensures ok { IfOk result (λ n. (n ≡ taken + length buf.new) × (n ≤ 2 ^ 40) × Consumes (S.left source.old) (S.left source.new) buf.new) }
+    ensures ok { IfOk result (Takes (S.left source.old) (S.left source.new) taken buf.new) }
     ensures err { IfErr result (Stops (S.left source.old) (S.left source.new) taken (length buf.old) short) }
-    ensures cause { IsCaused (S.faults source.old) (S.faults source.new) result }
+    ensures cause { IsCause (is_read_fault result) (S.faults source.old) (S.faults source.new) }
 {
     if taken + buf.len() as u64 <= LIMIT {
         return take_within(source, taken, buf, short);
@@ -85,11 +83,11 @@ pub fn take<S: Source>(
 
 /// Passes over at most 512 bytes.
 fn skip_some<S: Source>(source: &mut S, taken: u64, count: usize) -> Result<u64, WaveRefusal>
-    requires taken { taken ≤ 2 ^ 40 }
+    requires taken { taken ≤ limit }
     requires count { count ≤ 512 }
-    ensures ok { IfOk result (λ n. (n ≡ taken + count) × (n ≤ 2 ^ 40) × (xs : List ℕ) × Consumes (S.left source.old) (S.left source.new) xs × (length xs ≡ count)) }
+    ensures ok { IfOk result (TakesCount (S.left source.old) (S.left source.new) taken count) }
     ensures err { IfErr result (Stops (S.left source.old) (S.left source.new) taken count Chunk) }
-    ensures cause { IsCaused (S.faults source.old) (S.faults source.new) result }
+    ensures cause { IsCause (is_read_fault result) (S.faults source.old) (S.faults source.new) }
 {
     let mut buf = [0; 512];
     take(source, taken, &mut buf[..count], WaveField::Chunk)
@@ -97,11 +95,11 @@ fn skip_some<S: Source>(source: &mut S, taken: u64, count: usize) -> Result<u64,
 
 /// Passes over bytes.
 pub fn skip<S: Source>(source: &mut S, taken: u64, count: u64) -> Result<u64, WaveRefusal>
-    requires taken { taken ≤ 2 ^ 40 }
+    requires taken { taken ≤ limit }
     requires count { count ≤ 2 ^ 33 }
-    ensures ok { IfOk result (λ n. (n ≡ taken + count) × (n ≤ 2 ^ 40) × (xs : List ℕ) × Consumes (S.left source.old) (S.left source.new) xs × (length xs ≡ count)) }
+    ensures ok { IfOk result (TakesCount (S.left source.old) (S.left source.new) taken count) }
     ensures err { IfErr result (Stops (S.left source.old) (S.left source.new) taken count Chunk) }
-    ensures cause { IsCaused (S.faults source.old) (S.faults source.new) result }
+    ensures cause { IsCause (is_read_fault result) (S.faults source.old) (S.faults source.new) }
 {
     let mut left = count;
     let mut at = taken;

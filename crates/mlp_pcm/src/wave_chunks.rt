@@ -1,9 +1,10 @@
 //! The chunks of a WAVE file, up to its data.
-ghost use Rattle.std.specs.Prelude.{◌≡◌, ◌+◌, ◌^◌, ◌≤◌, ◌<◌, ◌++◌, List, ℕ, length, IfOk, IfErr, false, nat_eq, codes, suc};
-ghost use Rattle.std.specs.Io.KnownBytes.{Consumes};
+ghost use Rattle.std.specs.Prelude.{◌≡◌, ◌+◌, ◌^◌, ◌≤◌, ◌<◌, length, IfOk, IfErr, false, nat_eq, codes, suc};
+ghost use Rattle.mlp_io.specs.Limit.{limit};
+ghost use Rattle.mlp_io.specs.Causes.{IsCause};
 ghost use Rattle.mlp_syntax.specs.declared.refusal.WaveField.TheVariants.{Chunk};
 ghost use Rattle.mlp_pcm.specs.WaveHeader.{padded};
-ghost use Rattle.mlp_pcm.specs.WaveBytes.{Stops, IsCaused};
+ghost use Rattle.mlp_pcm.specs.WaveBytes.{TakesBehind, Stops, is_read_fault};
 ghost use Rattle.mlp_pcm.specs.WaveScan.{chunk, chunks, IsTurn, Ends, ContentSays, ChunksSay, place_of};
 ghost use Rattle.std.specs.List.{starts_with};
 
@@ -36,12 +37,12 @@ fn content<S: Source>(
     size: u64,
     buf: &mut [u8],
 ) -> Result<u64, WaveRefusal>
-    requires taken { taken ≤ 2 ^ 40 }
+    requires taken { taken ≤ limit }
     requires size { size ≤ 2 ^ 33 }
     requires buf { (length buf.old ≤ 40) × (length buf.old ≤ size) }
-    ensures ok { IfOk result (λ n. (n ≡ taken + size) × (n ≤ 2 ^ 40) × (xs : List ℕ) × Consumes (S.left source.old) (S.left source.new) (buf.new ++ xs) × (length buf.new + length xs ≡ size)) }
+    ensures ok { IfOk result (TakesBehind (S.left source.old) (S.left source.new) taken buf.new size) }
     ensures err { IfErr result (Stops (S.left source.old) (S.left source.new) taken size Chunk) }
-    ensures cause { IsCaused (S.faults source.old) (S.faults source.new) result }
+    ensures cause { IsCause (is_read_fault result) (S.faults source.old) (S.faults source.new) }
 {
     let count = buf.len() as u64;
     match take(source, taken, buf, WaveField::Chunk) {
@@ -57,12 +58,12 @@ fn passed<S: Source>(
     head: &[u8],
     taken: u64,
 ) -> Result<Turn, WaveRefusal>
-    requires taken { taken ≤ 2 ^ 40 }
+    requires taken { taken ≤ limit }
     requires head { length head.now ≡ 8 }
     requires other { starts_with nat_eq head.now (codes "data") ≡ false }
     ensures ok { IfOk result (IsTurn (S.left source.old) (S.left source.new) taken (λ n xs. chunk (chunks n) seen head.now xs)) }
     ensures err { IfErr result (Ends (S.left source.old) (S.left source.new) taken (ContentSays seen head.now)) }
-    ensures cause { IsCaused (S.faults source.old) (S.faults source.new) result }
+    ensures cause { IsCause (is_read_fault result) (S.faults source.old) (S.faults source.new) }
 {
     let size = LittleEndian::read_u32(&head[4..]);
     let whole = u64::from(size) + u64::from(size % 2);
@@ -100,11 +101,11 @@ pub fn next_chunk<S: Source>(
     seen: Option<Format>,
     taken: u64,
 ) -> Result<Turn, WaveRefusal>
-    requires taken { taken ≤ 2 ^ 40 }
+    requires taken { taken ≤ limit }
     ensures ok { IfOk result (IsTurn (S.left source.old) (S.left source.new) taken (λ n xs. chunks (suc n) seen xs)) }
     ensures err { IfErr result (Ends (S.left source.old) (S.left source.new) taken (ChunksSay seen)) }
     ensures further { IfOk result (λ turn. taken < place_of turn) }
-    ensures cause { IsCaused (S.faults source.old) (S.faults source.new) result }
+    ensures cause { IsCause (is_read_fault result) (S.faults source.old) (S.faults source.new) }
 {
     let mut head = [0; 8];
     let at = match take(source, taken, &mut head, WaveField::Chunk) {

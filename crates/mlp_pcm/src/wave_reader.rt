@@ -1,7 +1,8 @@
 //! The header of a WAVE file, read from any source.
 ghost use Rattle.std.specs.Prelude.{◌≡◌, ◌+◌, ◌++◌, List, ℕ, None, length, IfOk, IfErr, OnOk};
 ghost use Rattle.std.specs.Io.KnownBytes.{Consumes};
-ghost use Rattle.mlp_pcm.specs.WaveBytes.{IsCaused};
+ghost use Rattle.mlp_io.specs.Causes.{IsCause};
+ghost use Rattle.mlp_pcm.specs.WaveBytes.{is_read_fault};
 ghost use Rattle.mlp_pcm.specs.WaveScan.{header, chunks, Ends, HeaderSays, AllChunksSay, Says, Chunked, Began};
 
 use crate::samples::behind;
@@ -30,7 +31,7 @@ pub struct WaveInfo {
 fn take_riff<S: Source>(source: &mut S) -> Result<(), WaveRefusal>
     ensures ok { OnOk result ((xs : List ℕ) × Consumes (S.left source.old) (S.left source.new) xs × (length xs ≡ 12) × ((n : ℕ) (rest : List ℕ) → header n (xs ++ rest) ≡ chunks n None rest)) }
     ensures err { IfErr result (Ends (S.left source.old) (S.left source.new) 0 HeaderSays) }
-    ensures cause { IsCaused (S.faults source.old) (S.faults source.new) result }
+    ensures cause { IsCause (is_read_fault result) (S.faults source.old) (S.faults source.new) }
 {
     let mut riff = [0; 12];
     match take(source, 0, &mut riff, WaveField::Riff) {
@@ -50,7 +51,7 @@ fn take_riff<S: Source>(source: &mut S) -> Result<(), WaveRefusal>
 fn take_chunks<S: Source>(source: &mut S) -> Result<WaveInfo, WaveRefusal>
     ensures ok { IfOk result (Chunked (S.left source.old) (S.left source.new)) }
     ensures err { IfErr result (Ends (S.left source.old) (S.left source.new) 12 AllChunksSay) }
-    ensures cause { IsCaused (S.faults source.old) (S.faults source.new) result }
+    ensures cause { IsCause (is_read_fault result) (S.faults source.old) (S.faults source.new) }
 {
     let mut seen = None;
     let mut at = 12;
@@ -85,12 +86,13 @@ fn take_chunks<S: Source>(source: &mut S) -> Result<WaveInfo, WaveRefusal>
 ///
 /// # Errors
 ///
-/// `Read` only where the source's count of faults rose, and that count stays at every other answer. `Header` with the first
-/// field that is wrong. `TooLong` where the header has more than 2^40 bytes.
+/// `Read` only where the source's count of faults rose, and that count stays at every other answer: the bytes taken were then
+/// consumed, and are a header that isn't finished. `Header` with the first field that is wrong. `TooLong` where the header has
+/// more than 2^40 bytes.
 pub fn read_wave_header<S: Source>(source: &mut S) -> Result<WaveInfo, WaveRefusal>
     ensures ok { IfOk result (Began (S.left source.old) (S.left source.new)) }
     ensures err { IfErr result (Ends (S.left source.old) (S.left source.new) 0 Says) }
-    ensures cause { IsCaused (S.faults source.old) (S.faults source.new) result }
+    ensures cause { IsCause (is_read_fault result) (S.faults source.old) (S.faults source.new) }
 {
     match take_riff(source) {
         Ok(()) => take_chunks(source),

@@ -11,9 +11,9 @@ use Rattle.mlp_stream.specs.Pumped.{is_read_fault, is_write_fault}
 use Rattle.mlp_tool.specs.Lines.{status_of}
 use Rattle.mlp_tool.specs.Run.{Told}
 
-pub told : (line : List ℕ) (before now : ℕ) (a b : Option (List ℕ)) (r : Result Unit PutFailed) → OnOk r (Appends a b line) → IfErr r (λ e. (e.written ≤ length line) × Appends a b (take e.written line)) → HasCause before now r → Told line before now a b
+pub told : (line : List ℕ) (before now : ℕ) (a b : Option (List ℕ)) (r : Result Unit PutFailed) → OnOk r (Appends a b line) → IfErr r (λ e. Appends a b (take e.written line)) → HasCause before now r → Told line before now a b
 told line before now a b (Ok x) ok err cause = record { front = (length line, subst (Appends a b) (sym (take_all (length line) line (omega arith))) ok); whole = λ _. ok }
-told line before now a b (Err e) ok err cause = record { front = (e.written, err.1); whole = λ stayed. absurd (stayed cause.failed) }
+told line before now a b (Err e) ok err cause = record { front = (e.written, err); whole = λ stayed. absurd (stayed cause.failed) }
 
 -- status 5 is the read fault's
 pub read_status : (end : Result Unit Stop) → is_read_fault end ≡ (status_of end == 5)

@@ -1,4 +1,4 @@
-use Rattle.std.proofs.Common.{◌++◌, arith, ◌∙◌}
+use Rattle.std.proofs.Common.{◌++◌, arith, refl, ◌∙◌}
 use Rattle.std.proofs.lemmas.List.{length-append}
 use Rattle.mlp_syntax.specs.declared.refusal.WaveField.TheVariants.{Chunk}
 use Rattle.mlp_pcm.proofs.Stopping.{consumes_then, stops_after}
@@ -19,5 +19,5 @@ loop-left-preserved g c =
       within = e.1;
       most = omega (arith, v.most);
       bytes = (v.bytes.0 ++ e.2, consumes_then _ _ _ v.bytes.0 e.2 v.bytes.1 e.3, omega (arith, length-append v.bytes.0 e.2, v.bytes.2, e.4, c.min-piece.ensures));
-      faults = c.in-Ok.ensures.cause ∙ v.faults;
+      faults = c.in-Ok.ensures.cause.kept refl ∙ v.faults;
     }

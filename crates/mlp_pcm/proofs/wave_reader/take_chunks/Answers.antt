@@ -20,7 +20,7 @@ loop-format-preserved g c =
     record {
       within = t.3;
       bytes = (b.0 ++ t.0, consumes_then _ _ _ b.0 t.0 b.1 t.1, omega (arith, length-append b.0 t.0, b.2, t.2), b.3 + 1, run_passed b.3 c.loop-format.seen b.0 t.0 b.4 c.in-Ok-Passed.format t.4);
-      faults = c.in-Ok-Passed.ensures.cause ∙ v.faults;
+      faults = c.in-Ok-Passed.ensures.cause.kept refl ∙ v.faults;
     }
 
 pub returns-in-Ok-Data-clause-ok : goal.returns-in-Ok-Data-clause-ok
