@@ -10,6 +10,7 @@ use Rattle.mlp_bits.proofs.Remainders.{rem_from-smaller}
 use Rattle.mlp_layout.specs.Layout.{number_of, seen, ruled, opening, whole, part, made, item}
 use Rattle.mlp_layout.specs.Combined.{flag, fixed, checked, chosen, times}
 use Rattle.mlp_layout.proofs.CombinedLaws.{times_count}
+use Rattle.mlp_layout.proofs.Fitting.{Small, flag_fits, times_fit}
 use Rattle.mlp_major.specs.MajorSync.{kind_of, kind_bit, extension, fields, checked_sync, judged_sync, major_sync, rules, signed}
 use Rattle.mlp_major.proofs.SyncWriting.{SyncFits, sync_fits, fits_under, sync_has_fields}
 
@@ -28,16 +29,6 @@ empty_fits false empty bytes long-is some is = absurd cc
 empty_fits true empty [] long-is some is = (λ t. absurd cc, λ fits. absurd fits)
 empty_fits true empty (b ∷ bs) long-is some is = absurd (omega (arith, eqb-true (length (b ∷ bs)) 0 (sym is ∙ some)))
 
-abbrev Small : List ℕ → Type 0
-Small bytes = (i : ℕ) → get_or bytes i 0 < 256
-
-times_fit : (n : ℕ) (bytes : List ℕ) → length bytes ≡ n → Small bytes → (times n (number_of 8)).Fits bytes
-unfolding times made item number_of
-times_fit zero [] e small = refl
-times_fit zero (b ∷ bs) e small = absurd (omega arith)
-times_fit (suc n) [] e small = absurd (omega arith)
-times_fit (suc n) (b ∷ bs) e small = (small 0, times_fit n bs (omega arith) (λ i. small (suc i)))
-
 -- where one is told of
 pub fits_with : (long empty : Bool) (bytes : List ℕ) → Small bytes → long ≡ true → empty ≡ false → empty ≡ eqb (length bytes) 0 → IsTrue (eqb (length bytes) (2 + 2 * (get_or bytes 0 0 / 16))) ↔ (extension long).Fits bytes
 unfolding extension chosen item number_of
@@ -55,11 +46,6 @@ kind_fits : (k : Kind) → kind_bit.Fits k
 unfolding kind_bit seen number_of
 kind_fits kind.Fba = (omega arith, refl)
 kind_fits kind.Fbb = (omega arith, refl)
-
-flag_fits : (b : Bool) → flag.Fits b
-unfolding flag seen number_of
-flag_fits true = (omega arith, refl)
-flag_fits false = (omega arith, refl)
 
 fields_fit : (m : MajorSync) → SyncFits m → m.meaning < 2 ^ 64 → fields.Fits (signed m)
 unfolding fields fixed ruled part number_of made

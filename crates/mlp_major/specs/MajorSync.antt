@@ -1,5 +1,5 @@
 -- The major sync.
-use Rattle.std.specs.Prelude.{ℕ, ◌+◌, ◌*◌, ◌/◌, ◌%◌, ◌^◌, ◌<◌, ◌≤◌, ◌==◌, IsTrue, nat_le, nat_lt, ◌&&◌, ◌||◌, not, Bool, true, false, List, [], ◌∷◌, ◌++◌, Option, Some, None, if◌then◌else◌}
+use Rattle.std.specs.Prelude.{◌≡◌, ℕ, ◌+◌, ◌*◌, ◌/◌, ◌%◌, ◌^◌, ◌<◌, ◌≤◌, ◌==◌, IsTrue, nat_le, nat_lt, ◌&&◌, ◌||◌, not, Bool, true, false, List, [], ◌∷◌, ◌++◌, Option, Some, None, option_map, if◌then◌else◌}
 use Rattle.mlp_syntax.specs.declared.major.Kind.{Kind}
 use Rattle.mlp_syntax.specs.declared.major.Kind.TheVariants as kind
 use Rattle.mlp_syntax.specs.declared.major.FormatFbb.{FormatFbb}
@@ -11,7 +11,7 @@ use Rattle.mlp_syntax.specs.declared.fault.Field.TheVariants as rule
 use Rattle.mlp_major.specs.declared.reading.SignedSync.{SignedSync}
 use Rattle.mlp_bits.specs.Checks.{modulus16, rem}
 use Rattle.mlp_layout.specs.Layout.{Layout, Rule, number_of, seen, ruled, opening, whole, part, made, item}
-use Rattle.mlp_layout.specs.Combined.{must_at, on, under, flag, fixed, checked, chosen, times}
+use Rattle.mlp_layout.specs.Combined.{must_at, on, under, first_fault, flag, fixed, checked, chosen, times}
 
 -- ---- format info
 
@@ -152,6 +152,12 @@ pub record IsUsable (m : MajorSync) : Type 0 where
   pub some : 0 < m.substreams
   pub few : m.substreams ≤ most_substreams m.format
 
+-- first syncs behind which the same units may stand
+pub record Alike (a b : MajorSync) : Type 0 where
+  pub kind : kind_of a.format ≡ kind_of b.format
+  pub rate : rate_of a.format ≡ rate_of b.format
+  pub substreams : a.substreams ≡ b.substreams
+
 -- are rate and number of substreams those of the stream's first sync?
 abbrev pub is_unchanged : Option MajorSync → MajorSync → Bool
 is_unchanged None m = true
@@ -178,6 +184,21 @@ abbrev pub is_same_kind : Option MajorSync → ℕ → Bool
 is_same_kind None word = true
 is_same_kind (Some first) word = word == 2 * sync + kind_bit_of (kind_of first.format)
 
+-- is its kind that of the stream's first sync?
+abbrev pub HasKindOf : Option MajorSync → MajorSync → Type 0
+HasKindOf None m = Unit {0}
+HasKindOf (Some first) m = kind_of m.format ≡ kind_of first.format
+
+-- it has the kind of the stream's first sync, and no rule on its fields fails
+pub record KeepsRules (first : Option MajorSync) (m : MajorSync) : Type 0 where
+  pub kind : HasKindOf first m
+  pub fields : first_fault (rules first) m ≡ None
+
+-- the major sync of the stream that an extraction of presentation k makes: as many substreams as it keeps, and the
+-- highest bit of the substream info, which marks object audio in the fourth substream, cleared
+abbrev pub smaller : ℕ → MajorSync → MajorSync
+smaller k m = record m { substreams = k + 1; info = m.info % 2 ^ 7 }
+
 -- a major sync with its signature
 abbrev pub signed : MajorSync → SignedSync
 signed m = record { signature = signature; major = m }
@@ -196,3 +217,11 @@ judged_sync first =
 -- a major sync, its kind being tried before all else; first is the stream's first sync, if this isn't it
 unfoldable pub major_sync : Option MajorSync → Layout MajorSync
 major_sync first = opening 32 rule.SyncKind (is_same_kind first) (judged_sync first)
+
+-- ---- what an extraction makes of a major sync is one that fits, that later units can rely on and that keeps the rules,
+-- where the whole one is
+
+pub record NarrowsWell (k : ℕ) (m : MajorSync) : Type 0 where
+  pub fits : (major_sync None).Fits m → (major_sync None).Fits (smaller k m)
+  pub usable : IsUsable m → IsUsable (smaller k m)
+  pub rules : (first : Option MajorSync) → KeepsRules first m → KeepsRules (option_map (smaller k) first) (smaller k m)

@@ -6,6 +6,9 @@ use mlp_bits::BitReader;
 use mlp_layout::{byte, number, word};
 use mlp_syntax::{Broken, FormatFba, FormatFbb, FormatInfo, Kind};
 
+/// The first 31 bits of a major sync. The next one tells the kind.
+pub const SYNC: u32 = 0x7C3937DD;
+
 #[tactic(auto, unfolding(mlp_layout::specs::Layout::part, mlp_layout::specs::Layout::made, crate::specs::MajorSync::fbb))]
 fn read_fbb(r: &mut BitReader) -> Result<FormatFbb, Broken>
     ensures { Gives (λ x. x) r.old r.new result (fbb.read r.old.all r.old.place) }

@@ -7,7 +7,7 @@ ghost use Rattle.mlp_layout.specs.Layout.{number_of};
 ghost use Rattle.mlp_layout.specs.Combined.{times};
 ghost use Rattle.mlp_major.specs.MajorSync.{extension, fields, checked_sync, judged_sync, major_sync, is_fba, IsUsable};
 
-use crate::format::{read_format, read_kind};
+use crate::format::{SYNC, read_format, read_kind};
 use crate::rules::{check_rules, is_same_kind};
 use arrayvec::ArrayVec;
 use mlp_bits::{BitReader, check16};
@@ -63,7 +63,7 @@ fn read_fields(r: &mut BitReader) -> Result<SignedSync, Broken>
 {
     let at = r.place();
     let sync = number(31, r)?;
-    if sync != 0x7C3937DD {
+    if sync != SYNC {
         return Err(broken(Field::SyncKind, at));
     }
     let kind = read_kind(r)?;
@@ -154,6 +154,10 @@ fn first_word(bytes: &[u8]) -> u32
 }
 
 /// The major sync at the reader's place in these bytes, or the first rule that fails; `first` is the stream's first one.
+///
+/// # Errors
+///
+/// Those of `read_major`, with bits counted from the first of these bytes.
 #[tactic(auto, unfolding(mlp_layout::specs::Layout::opening, crate::specs::MajorSync::major_sync))]
 pub fn read_sync(
     bytes: &[u8],
@@ -177,6 +181,10 @@ pub fn read_sync(
 /// sync's first. `first` is the stream's first major sync, and `None` for that one itself.
 ///
 /// The sync must be there: its first 31 bits are those of the sync word.
+///
+/// # Errors
+///
+/// SyncKind, MajorCrc, Signature, Rate, Quant, GroupRate, Substreams or SyncChanged, whichever fails first in this order.
 pub fn read_major(
     after_head: &[u8],
     first: Option<&MajorSync>,

@@ -6,6 +6,7 @@ ghost use Rattle.mlp_layout.specs.Combined.{times};
 ghost use Rattle.mlp_layout.specs.Writing.{Writes};
 ghost use Rattle.mlp_major.specs.MajorSync.{fbb, fba, format_info, kind_of, kind_bit_of, fields, checked_sync, signed, major_sync};
 
+use crate::format::SYNC;
 use mlp_bits::{BitWriter, Full, check16};
 use mlp_layout::{put_all, put_number, put_wide};
 use mlp_syntax::{FormatFba, FormatFbb, FormatInfo, MajorSync, UnitBytes, UnitTooLong};
@@ -83,7 +84,7 @@ fn write_fields(major: &MajorSync, w: &mut BitWriter) -> Result<(), Full>
     requires { fields.Fits (signed major.now) }
     ensures { Writes w.old w.new result (fields.spelling (signed major.now)) }
 {
-    put_all(&[(0x7C3937DD, 31), (kind_bit(&major.format), 1)], w)?;
+    put_all(&[(SYNC, 31), (kind_bit(&major.format), 1)], w)?;
     write_format(&major.format, w)?;
     put_all(
         &[
@@ -126,7 +127,9 @@ fn push_all(bytes: &[u8], out: &mut UnitBytes)
 
 /// Appends the one spelling of a major sync, with its sync word, signature and check.
 ///
-/// `UnitTooLong` comes exactly where the bytes would pass 8190; then `out` is unchanged.
+/// # Errors
+///
+/// `UnitTooLong` exactly where the bytes would pass 8190; then `out` is unchanged.
 pub fn write_major(major: &MajorSync, out: &mut UnitBytes) -> Result<(), UnitTooLong>
     requires { (major_sync None).Fits major.now }
     ensures too_long { IsErr result ↔ (65520 < length (bits_of out.old.items ++ (major_sync None).spelling major.now)) }

@@ -5,3 +5,7 @@
 mod bits;
 #[cfg(test)]
 mod layout;
+#[cfg(test)]
+mod major;
+#[cfg(test)]
+mod unit;

@@ -21,7 +21,8 @@ use Rattle.mlp_unit.specs.Directory.{directory, directory_size, first_failing, m
 use Rattle.mlp_unit.specs.AccessUnit.{AccessUnit, head, in_force, stream_kind, substreams_of, major_size, behind_sync, parts, rules, parity_of, further, first_bad_end, directory_place, is_restart_flag}
 use Rattle.mlp_unit.specs.Shape.{unit_with, body_place}
 use Rattle.mlp_unit.proofs.UnitLaws.{parts_is, parts_take, head_takes, directory_takes, sync_takes}
-use Rattle.mlp_unit.proofs.ParityLaws.{Small, small-take, small-drop, parity_is}
+use Rattle.mlp_layout.proofs.Fitting.{Small}
+use Rattle.mlp_unit.proofs.ParityLaws.{small-take, small-drop, parity_is}
 
 -- ---- where head and directory stand
 

@@ -11,3 +11,7 @@ pub mod RoundTrip
 pub mod Reread
 pub mod UnitFitting
 pub mod WordReading
+pub mod SegmentPlaces
+pub mod UnitRules
+pub mod FirstSyncs
+pub mod Fewer

@@ -1,17 +1,23 @@
 -- The sum of half bytes, over bits and over bytes.
-use Rattle.std.proofs.Common.{◌≡◌, ℕ, suc, ◌+◌, ◌/◌, ◌%◌, ◌^◌, ◌<◌, Bool, List, [], ◌∷◌, ◌++◌, get_or, take, drop, refl, sym, ap, ◌∙◌, append_assoc, arith, inl, inr}
+use Rattle.std.proofs.Common.{◌≡◌, ℕ, suc, ◌+◌, ◌/◌, ◌%◌, ◌^◌, ◌<◌, Bool, List, [], ◌∷◌, ◌++◌, length, get_or, take, drop, refl, sym, ap, ◌∙◌, append_assoc, arith, inl, inr}
 use Rattle.std.proofs.lemmas.Bool.{cases_lt}
 use Rattle.std.proofs.lemmas.List.{get_or-drop, get_or-take, get_or_past, length-take, append-nil}
+use Rattle.std.proofs.lemmas.List.Elements.{All-get_or}
 use Rattle.std.specs.Prelude.{fold, bit_xor}
 use lib.Bits.{xor_assoc, xor_zero_r}
 use Rattle.mlp_bits.specs.Bits.{bits, bits_of}
 use Rattle.mlp_bits.specs.Checks.{nibbles, nibble_parity_of}
 use Rattle.mlp_bits.proofs.BitLists.{bits-split, bits_of-cons, number-bits}
 use Rattle.mlp_bits.proofs.Parities.{nibbles-append}
+use Rattle.mlp_layout.proofs.Fitting.{Small}
 use Rattle.mlp_unit.specs.AccessUnit.{half_byte_sum}
+use Rattle.mlp_unit.specs.Laws.{AreBytes}
 
-abbrev pub Small : List ℕ → Type 0
-Small bytes = (i : ℕ) → get_or bytes i 0 < 256
+pub small_bytes : (bytes : List ℕ) → AreBytes bytes → Small bytes
+small_bytes bytes all i = elim (cases_lt i (length bytes)) [
+  | inl lt ↦ All-get_or (λ (b : ℕ). b < 256) bytes i 0 lt all
+  | inr le ↦ rw (get_or_past bytes i 0 le) (omega arith)
+]
 
 pub small-drop : (n : ℕ) (bytes : List ℕ) → Small bytes → Small (drop n bytes)
 small-drop n bytes small i = rw get_or-drop (small (n + i))
@@ -47,3 +53,8 @@ parity_is xs ys small little =
     let one = half_bytes 0 xs (bits_of ys) small in
     let two = half_bytes (fold bit_xor 0 (nibbles xs)) ys [] little in
     sym (zero_left (half_byte_sum (bits_of xs ++ bits_of ys))) ∙ one ∙ ap (λ (t : List Bool). bit_xor (fold bit_xor 0 (nibbles xs)) (half_byte_sum t)) (sym (append-nil (bits_of ys))) ∙ two ∙ xor_zero_r (fold bit_xor (fold bit_xor 0 (nibbles xs)) (nibbles ys)) ∙ sym (nibbles-append 0 xs ys)
+
+pub bytes_parity : (bytes : List ℕ) → AreBytes bytes → half_byte_sum (bits_of bytes) ≡ nibble_parity_of bytes
+unfolding bits_of
+bytes_parity bytes all =
+    ap half_byte_sum (sym (append-nil (bits_of bytes))) ∙ parity_is bytes [] (small_bytes bytes all) (λ i. omega arith) ∙ ap nibble_parity_of (append-nil bytes)

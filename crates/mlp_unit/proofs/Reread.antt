@@ -1,59 +1,36 @@
--- A unit that was read is the one that would be written.
-use Rattle.std.proofs.Common.{◌≡◌, ℕ, ◌-◌, ◌*◌, ◌/◌, ◌%◌, ◌<◌, ◌≤◌, leb, ltb, eqb, cond, Bool, true, false, List, [], ◌∷◌, ◌++◌, length, take, Option, Some, None, Ok, refl, sym, ap, subst, ◌∙◌, arith}
+-- A unit that fits and meets the rules is the one that would be written.
+use Rattle.std.proofs.Common.{◌≡◌, ℕ, zero, suc, ◌-◌, ◌*◌, ◌/◌, ◌%◌, ◌<◌, ◌≤◌, leb, eqb, cond, Bool, true, false, List, [], ◌∷◌, ◌++◌, length, take, Option, Some, None, refl, sym, ap, subst, ◌∙◌, arith}
 use Rattle.std.proofs.lemmas.List.{length-append, take-append-le}
-use Rattle.std.proofs.lemmas.Bool.{eqb-true, leb-true, ltb-true, le-leb}
-use Rattle.std.specs.Prelude.{◌&&◌, bit_xor, is_some}
+use Rattle.std.proofs.lemmas.Bool.{eqb-true, leb-true, le-leb}
+use Rattle.std.specs.Prelude.{◌&&◌, bit_xor, is_some, IfSome}
 use lib.Bits.{xor_assoc, xor_self, xor_comm}
 use Rattle.mlp_syntax.specs.declared.major.FormatInfo.{FormatInfo}
 use Rattle.mlp_syntax.specs.declared.major.FormatInfo.TheVariants as format
 use Rattle.mlp_syntax.specs.declared.major.MajorSync.{MajorSync}
 use Rattle.mlp_syntax.specs.declared.unit.DirEntry.{DirEntry}
 use Rattle.mlp_syntax.specs.declared.unit.UnitHead.{UnitHead}
-use Rattle.mlp_bits.specs.Bits.{bits, bits_of, number}
-use Rattle.mlp_layout.specs.Layout.{Layout, Rule, Found, number_of, seen, ruled, opening, tested, whole, part, made, marked, next_is, sized}
-use Rattle.mlp_layout.specs.Combined.{under, chosen, present, times}
-use Rattle.mlp_layout.proofs.LayoutLaws.{is_found}
+use Rattle.mlp_bits.specs.Bits.{bits, number}
+use Rattle.mlp_layout.specs.Layout.{number_of, seen, ruled, tested, whole, part, made, item, marked, next_is, sized}
+use Rattle.mlp_layout.specs.Combined.{chosen, present, times}
 use Rattle.mlp_layout.proofs.CombinedLaws.{times_count}
-use Rattle.mlp_major.specs.MajorSync.{major_sync, judged_sync, sync, most_substreams, is_unchanged, rate_of}
-use Rattle.mlp_major.specs.MajorSync.{rules as sync_rules}
+use Rattle.mlp_major.specs.MajorSync.{major_sync, sync, most_substreams, is_unchanged, rate_of, KeepsRules}
+use Rattle.mlp_layout.proofs.RuleReading.{rule_holds}
+use Rattle.mlp_layout.proofs.Fitting.{Small}
+use Rattle.mlp_major.proofs.RuleLaws.{met, both}
+use Rattle.mlp_major.proofs.SyncRules.{keeps_rules, usable_of, unchanged_of}
 use Rattle.mlp_major.proofs.SyncWriting.{fits_any, under_fits, under_text}
-use Rattle.mlp_unit.specs.Directory.{directory, directory_size, entry, entry_size}
-use Rattle.mlp_unit.specs.AccessUnit.{AccessUnit, access_unit, head, head_fields, half_byte_sum, in_force, substreams_of, major_size, behind_sync, parts, parity_of, further, first_bad_end, directory_place, rules}
-use Rattle.mlp_unit.specs.Written.{MajorFits, CountFits, FirstUsable, Writable, unit_size, written_head, written_unit}
-use Rattle.mlp_unit.proofs.UnitLaws.{access_unit_is, access_unit_size, head_takes, entry_takes}
+use Rattle.mlp_unit.specs.Directory.{directory, directory_size, entry, entry_size, may_stand}
+use Rattle.mlp_unit.specs.AccessUnit.{AccessUnit, access_unit, head, head_fields, half_byte_sum, in_force, stream_kind, substreams_of, is_restart_flag, major_size, behind_sync, parts, parity_of, further, first_bad_end, directory_place, rules}
+use Rattle.mlp_unit.specs.Written.{MajorFits, CountFits, FirstUsable, MayFollow, Writable, unit_size, written_head, written_unit}
+use Rattle.mlp_unit.proofs.UnitLaws.{access_unit_size, head_takes, entry_takes}
 use Rattle.mlp_unit.proofs.WrittenLaws.{major_even, directory_even, no_sync, behind_first_bit, directory_first, directory_first_fits}
-use Rattle.mlp_unit.proofs.RoundTrip.{head_sum, ends_any}
+use Rattle.mlp_unit.proofs.RoundTrip.{head_sum, failing_any, ends_any}
 
 -- ---- rules that are met
-
-ruled_meets : {A : Type 0} (rule : Rule A) (l : Layout A) (x : A) → (ruled rule l).Meets x → l.Meets x × (rule.fails x ≡ None)
-unfolding ruled
-ruled_meets rule l x meets = meets
-
--- each of these rules holds
-abbrev Met : {A : Type 0} → List (Rule A) → A → Type 0
-Met [] x = Unit {0}
-Met (rule ∷ rules) x = (rule.fails x ≡ None) × Met rules x
-
-met : {A : Type 0} (rules : List (Rule A)) (l : Layout A) (x : A) → (under rules l).Meets x → l.Meets x × Met rules x
-unfolding under
-met [] l x meets = (meets, tt)
-met (rule ∷ rules) l x meets =
-    let later = met rules (ruled rule l) x meets in
-    let here = ruled_meets rule l x later.0 in
-    (here.0, (here.1, later.1))
-
-rule_holds : (b : Bool) (at : ℕ) → cond {A = Option ℕ} b None (Some at) ≡ None → b ≡ true
-rule_holds true at e = refl
-rule_holds false at e = absurd cc
 
 no_further : (bits : ℕ) (o : Option ℕ) → further bits o ≡ None → o ≡ None
 no_further bits None e = refl
 no_further bits (Some at) e = absurd cc
-
-both : (a b : Bool) → (a && b) ≡ true → (a ≡ true) × (b ≡ true)
-both true b e = (refl, e)
-both false b e = absurd cc
 
 -- ---- how many substreams there are
 
@@ -64,13 +41,6 @@ most_small (format.Fba f) = omega arith
 same_count : (first : Option MajorSync) (m : MajorSync) → is_unchanged first m ≡ true → substreams_of (in_force first (Some m)) ≡ m.substreams
 same_count None m e = refl
 same_count (Some f) m e = sym (eqb-true m.substreams f.substreams (both (eqb (rate_of m.format) (rate_of f.format)) (eqb m.substreams f.substreams) e).1)
-
-sync_substreams : (first : Option MajorSync) (m : MajorSync) → (major_sync first).Meets m → (0 < m.substreams) × (m.substreams ≤ 4) × (substreams_of (in_force first (Some m)) ≡ m.substreams)
-unfolding major_sync opening judged_sync
-sync_substreams first m meets =
-    let each = (met (sync_rules first) _ m meets.1).1 in
-    let range = both (ltb 0 m.substreams) (leb m.substreams (most_substreams m.format)) (rule_holds (ltb 0 m.substreams && leb m.substreams (most_substreams m.format)) 128 each.1.1.1.1.0) in
-    (ltb-true _ _ range.0, omega (arith, leb-true _ _ range.1, most_small m.format), same_count first m (rule_holds (is_unchanged first m) 0 each.1.1.1.1.1.0))
 
 major_fits_of : (there : Bool) (first o : Option MajorSync) → (present there (major_sync first)).Fits o → MajorFits o
 unfolding present chosen seen made
@@ -89,12 +59,25 @@ pub record Count (major : Option MajorSync) (n : ℕ) : Type 0 where
   pub few : n ≤ 4
   pub count : CountFits major n
 
-count_of : (first : Option MajorSync) → FirstUsable first → (o : Option MajorSync) → (present (is_some o) (major_sync first)).Meets o → is_some (in_force first o) ≡ true → Count o (substreams_of (in_force first o))
-count_of first usable (Some m) meets there =
-    let s = sync_substreams first m (major_meets_of first m meets) in
-    record { some = omega (arith, s.0, s.2); few = omega (arith, s.1, s.2); count = s.2 }
-count_of (Some f) usable None meets there = record { some = usable.some; few = omega (arith, usable.few, most_small f.format); count = tt }
-count_of None usable None meets there = absurd cc
+count_of : (first o : Option MajorSync) → (is_some o ≡ false → FirstUsable first) → IfSome o (KeepsRules first) → is_some (in_force first o) ≡ true → Count o (substreams_of (in_force first o))
+count_of first (Some m) usable keeps there =
+    let u = usable_of first m keeps in
+    let same = same_count first m (unchanged_of first m keeps) in
+    record { some = omega (arith, u.some, same); few = omega (arith, u.few, same, most_small m.format); count = same }
+count_of (Some f) None usable keeps there = let u = usable refl in record { some = u.some; few = omega (arith, u.few, most_small f.format); count = tt }
+count_of None None usable keeps there = absurd cc
+
+sync_keeps : (first o : Option MajorSync) → MajorFits o → (present (is_some o) (major_sync first)).Meets o → IfSome o (KeepsRules first)
+unfolding present chosen seen made
+sync_keeps first None fits meets = tt
+sync_keeps first (Some m) fits meets = keeps_rules first m fits meets
+
+small_of : (n : ℕ) (bytes : List ℕ) → (times n (number_of 8)).Fits bytes → Small bytes
+unfolding times made item number_of
+small_of zero bytes fits i = rw fits (omega arith)
+small_of (suc n) [] fits i = absurd fits
+small_of (suc n) (b ∷ bs) fits zero = fits.0
+small_of (suc n) (b ∷ bs) fits (suc i) = small_of n bs fits.1 i
 
 abbrev unit_with_head : AccessUnit → UnitHead → AccessUnit
 unit_with_head u h = record u { head = h }
@@ -130,14 +113,14 @@ not_like (e ∷ es) more some fits mark = by_extra e.extra refl
         let long : 31 ≤ length ((directory (length (e ∷ es))).spelling (e ∷ es)) = omega (arith, len, four, ap (λ (t : List Bool). length t) (directory_first e es), length-append (entry.spelling e) ((directory (length es)).spelling es)) in
         ap (λ (t : List Bool). eqb (number t) sync) (sym (take-append-le 31 ((directory (length (e ∷ es))).spelling (e ∷ es)) more long)) ∙ mark (omega (arith, four))
 
--- ---- a unit that was read
+-- ---- a unit that fits and meets the rules
 
-module _ (first : Option MajorSync) (usable : FirstUsable first) (bytes : List ℕ) (u : AccessUnit) (e : (access_unit first).read (bits_of bytes) 0 ≡ Ok (u, 8 * length bytes)) where
-  found : Found (access_unit first) (bits_of bytes) 0 u
-  found = (is_found (access_unit_is first) (bits_of bytes) 0 (omega arith) (u, 8 * length bytes) e).0
-
-  record Parts : Type 0 where
+module _ (first : Option MajorSync) (u : AccessUnit) (usable : is_some u.major ≡ false → FirstUsable first) (fits-u : (access_unit first).Fits u) (meets-u : (access_unit first).Meets u) where
+  pub record Parts : Type 0 where
     pub head_fits : (u.head.check < 16) × (u.head.words < 4096)
+    pub timing : u.head.timing < 65536
+    pub small : Small u.body
+    pub asked : MayFollow first u.major u.entries
     pub two : 2 ≤ u.head.words
     pub major_fits : MajorFits u.major
     pub entries_fit : (directory (length u.entries)).Fits u.entries
@@ -148,31 +131,44 @@ module _ (first : Option MajorSync) (usable : FirstUsable first) (bytes : List �
     pub parity : parity_of u.head u.entries ≡ 15
     pub ends : first_bad_end 0 (length u.body / 2) 0 u.entries ≡ None
 
-  parts_of : Parts
+  pub parts_of : Parts
   unfolding access_unit parts part sized marked behind_sync tested head head_fields ruled whole number_of directory made
   parts_of =
-      let each = met (rules first) (parts first) u found.meets in
-      let fits = under_fits (rules first) (parts first) u found.fits in
+      let each = met (rules first) (parts first) u meets-u in
+      let fits = under_fits (rules first) (parts first) u fits-u in
       let meets = each.0 in
       let two-words : 2 ≤ u.head.words = leb-true 2 u.head.words (rule_holds (leb 2 u.head.words) 4 meets.0.1) in
       let n = substreams_of (in_force first u.major) in
       let entries = fits.1.0.0.1.0 in
       let count : length u.entries ≡ n = times_count n _ u.entries entries in
       let more = (times (2 * u.head.words - 4 - major_size u.major - directory_size u.entries) (number_of 8)).spelling u.body ++ [] in
-      let all = access_unit_size first u found.fits in
+      let all = access_unit_size first u fits-u in
+      let major = major_fits_of (is_some u.major) first u.major fits.1.0.0.0 in
+      let keeps = sync_keeps first u.major major meets.1.0 in
       let front = head_takes.takes u.head fits.0 in
       record {
         head_fits = (fits.0.0, fits.0.1.0);
+        timing = fits.0.1.1.0;
+        small = small_of _ u.body fits.1.0.0.1.1.0;
+        asked = record {
+          sync = keeps;
+          count = sym count;
+          extra = failing_any (may_stand (stream_kind (in_force first u.major))) (directory_place u) 0 u.entries (no_further 0 _ each.1.0);
+          flags = failing_any (is_restart_flag (is_some u.major)) (directory_place u) 0 u.entries (no_further 1 _ each.1.1.1.0);
+        };
         two = two-words;
-        major_fits = major_fits_of (is_some u.major) first u.major fits.1.0.0.0;
+        major_fits = major;
         entries_fit = subst (λ (k : ℕ). (directory k).Fits u.entries) (sym count) entries;
-        count = subst (Count u.major) (sym count) (count_of first usable u.major meets.1.0 meets.1.1.0);
+        count = subst (Count u.major) (sym count) (count_of first u.major usable keeps meets.1.1.0);
         marks = fits.1.0.1;
         behind = (more, ap (λ (k : ℕ). (directory k).spelling u.entries ++ more) (sym count));
         size = omega (arith, all, front, fits.1.1, two-words, ap (λ (t : List Bool). length t) (under_text (rules first) (parts first) u), length-append (head.spelling u.head) ((present (is_some u.major) (major_sync first)).spelling u.major ++ (behind_sync first u.head u.major).spelling u));
         parity = eqb-true _ _ (rule_holds (eqb (parity_of u.head u.entries) 15) 0 each.1.1.0);
         ends = ends_any 0 (length u.body / 2) (directory_place u) 0 u.entries (no_further 4 _ each.1.1.1.1.0);
       }
+
+  pub small_size : unit_size u.major u.entries u.body ≤ 8190
+  small_size = omega (arith, parts_of.size, parts_of.head_fits)
 
   body_even : length u.body % 2 ≡ 0
   body_even = omega (arith, parts_of.size, major_even u.major parts_of.major_fits, directory_even u.entries)

@@ -9,6 +9,7 @@ use Rattle.mlp_bits.proofs.BitLists.{length-bits, bits-split}
 use Rattle.mlp_bits.proofs.ReadBack.{number-of}
 use Rattle.mlp_layout.specs.Layout.{number_of, seen, whole, part, made, item, next_is}
 use Rattle.mlp_layout.specs.Combined.{flag, chosen, present, times}
+use Rattle.mlp_layout.proofs.Fitting.{flag_fits}
 use Rattle.mlp_major.specs.MajorSync.{sync}
 use Rattle.mlp_unit.specs.Directory.{entry, directory}
 use Rattle.mlp_unit.proofs.WordTexts.{bits-join, end_small, EntriesFit}
@@ -19,11 +20,6 @@ use Rattle.mlp_unit.proofs.WrittenLaws.{behind_first_bit, directory_first, direc
 abbrev pub ExtraFits : Option ℕ → Type 0
 ExtraFits None = Unit {0}
 ExtraFits (Some x) = x < 65536
-
-flag_fits : (b : Bool) → flag.Fits b
-unfolding flag seen number_of
-flag_fits true = (omega arith, refl)
-flag_fits false = (omega arith, refl)
 
 extra_fits : (o : Option ℕ) → ExtraFits o → (present (is_some o) (number_of 16)).Fits o
 unfolding present chosen seen made number_of

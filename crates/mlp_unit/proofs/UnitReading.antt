@@ -17,6 +17,7 @@ use Rattle.mlp_layout.specs.Reading.{Read, ◌>>=◌, broken, number_at}
 use Rattle.mlp_layout.specs.Layout.{number_of, ruled, whole, tested, part, made, item, marked, next_is, sized}
 use Rattle.mlp_layout.specs.Combined.{present, times}
 use Rattle.mlp_layout.proofs.LayoutLaws.{is_found}
+use Rattle.mlp_layout.proofs.RuleReading.{rule_holds}
 use Rattle.mlp_layout.proofs.CombinedLaws.{present_is}
 use Rattle.mlp_major.specs.MajorSync.{major_sync, sync}
 use Rattle.mlp_major.proofs.MajorLaws.{major_is}
@@ -142,10 +143,6 @@ bits_behind n bytes c le c-is e =
     rw (le-leb 8 (length bytes) le, ← is) refl
 
 -- ---- the frame
-
-rule_holds : (b : Bool) (at : ℕ) → cond {A = Option ℕ} b None (Some at) ≡ None → b ≡ true
-rule_holds true at e = refl
-rule_holds false at e = absurd cc
 
 pub head_facts : (all : List Bool) (h : UnitHead) (q : ℕ) → head.read all 0 ≡ Ok (h, q) → (q ≡ 32) × (h.words < 4096) × (2 ≤ h.words)
 unfolding head head_fields ruled whole part number_of

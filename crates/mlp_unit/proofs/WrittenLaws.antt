@@ -18,7 +18,7 @@ use Rattle.mlp_unit.specs.Directory.{entry, entry_size, directory, directory_siz
 use Rattle.mlp_unit.specs.AccessUnit.{half_byte_sum, access_unit, head, head_fields, in_force, substreams_of, major_size, behind_sync, parts, rules}
 use Rattle.mlp_unit.specs.Written.{MajorFits, major_text, Writable, unit_size, written_head, written_unit}
 use Rattle.mlp_unit.proofs.UnitLaws.{directory_takes, entry_takes}
-use Rattle.mlp_unit.proofs.ParityLaws.{Small}
+use Rattle.mlp_layout.proofs.Fitting.{Small, times_fit}
 use Rattle.mlp_unit.proofs.WordTexts.{head_text}
 
 -- ---- bytes
@@ -29,13 +29,6 @@ bytes_text zero [] e = refl
 bytes_text zero (b ∷ bs) e = absurd (omega arith)
 bytes_text (suc n) [] e = absurd (omega arith)
 bytes_text (suc n) (b ∷ bs) e = ap (λ (t : List Bool). bits 8 b ++ t) (bytes_text n bs (omega arith))
-
-pub bytes_fit : (n : ℕ) (bytes : List ℕ) → length bytes ≡ n → Small bytes → (times n (number_of 8)).Fits bytes
-unfolding times made item number_of
-bytes_fit zero [] e small = refl
-bytes_fit zero (b ∷ bs) e small = absurd (omega arith)
-bytes_fit (suc n) [] e small = absurd (omega arith)
-bytes_fit (suc n) (b ∷ bs) e small = (small 0, bytes_fit n bs (omega arith) (λ i. small (suc i)))
 
 -- ---- the major sync, if any
 
@@ -178,7 +171,7 @@ module _ (first : Option MajorSync) (timing : ℕ) (major : Option MajorSync) (e
     unfolding behind_sync tested part made
     behind_fits =
         let n = 2 * (unit_size major entries body / 2) - 4 - major_size major - directory_size entries in
-        (subst (λ (k : ℕ). (directory k).Fits entries) (sym count) w.entries_fit, (bytes_fit n body (omega (arith, twice major entries body w)) small, refl))
+        (subst (λ (k : ℕ). (directory k).Fits entries) (sym count) w.entries_fit, (times_fit n body (omega (arith, twice major entries body w)) small, refl))
 
     pub unit_fits : (access_unit first).Fits (written_unit timing major entries body)
     unfolding access_unit parts sized marked part

@@ -1,5 +1,5 @@
 -- Streams as their outer parts show them: no segment is read.
-use Rattle.std.specs.Prelude.{ℕ, List, Option, None}
+use Rattle.std.specs.Prelude.{ℕ, min, List, Option, None}
 use Rattle.mlp_syntax.specs.declared.fault.Fault.{Fault}
 use Rattle.mlp_syntax.specs.declared.major.MajorSync.{MajorSync}
 use Rattle.mlp_bits.specs.Bits.{bits_of}
@@ -7,13 +7,13 @@ use Rattle.mlp_layout.specs.Contents.{nothing}
 use Rattle.mlp_layout.specs.Streams.{Format, UnitOf, Units, UnitsFail, HasOneEnd}
 use Rattle.mlp_unit.specs.AccessUnit.{AccessUnit, access_unit, in_force, substreams_of}
 
--- units leave the stream's first major sync
+-- units leave the stream's first major sync; a fourth substream has no presentation of its own
 abbrev pub outline : Format (Option MajorSync) AccessUnit (Unit {0})
 outline = record {
   outer = access_unit;
   contents = λ first u. nothing;
   after = λ first u. in_force first u.outer.major;
-  presentations = λ u. substreams_of u.major;
+  presentations = λ u. min 3 (substreams_of u.major);
 }
 
 -- the bytes are these units, of which there is one at least

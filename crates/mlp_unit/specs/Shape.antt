@@ -1,11 +1,12 @@
 -- The outer part of a unit beside its bytes, and the ranges of its segments.
-use Rattle.std.specs.Prelude.{ℕ, zero, suc, ◌+◌, ◌*◌, List, [], ◌∷◌, Option, drop}
+use Rattle.std.specs.Prelude.{◌≡◌, ℕ, zero, suc, ◌+◌, ◌-◌, ◌*◌, ◌/◌, ◌≤◌, Bool, List, [], ◌∷◌, Option, None, length, take, drop}
 use Rattle.mlp_syntax.specs.declared.major.MajorSync.{MajorSync}
 use Rattle.mlp_syntax.specs.declared.unit.DirEntry.{DirEntry}
 use Rattle.mlp_syntax.specs.declared.unit.UnitHead.{UnitHead}
 use Rattle.mlp_syntax.specs.declared.unit.Outer.{Outer}
+use Rattle.mlp_bits.specs.Bits.{bits_of}
 use Rattle.mlp_unit.specs.Directory.{directory_size}
-use Rattle.mlp_unit.specs.AccessUnit.{AccessUnit, major_size}
+use Rattle.mlp_unit.specs.AccessUnit.{AccessUnit, major_size, first_bad_end}
 
 -- the byte at which the segments begin
 abbrev pub body_place : AccessUnit → ℕ
@@ -33,3 +34,14 @@ end_before es (suc j) = end_at es j
 -- the first byte of a segment, and the byte past its last
 abbrev pub range_of : Outer → ℕ → ℕ × ℕ
 range_of o j = (o.body + 2 * end_before o.entries.items j, o.body + 2 * end_at o.entries.items j)
+
+-- the segments lie in the unit's bytes: their ends don't fall, and none is past the last word
+pub record HoldsSegments (bytes : List ℕ) (o : Outer) : Type 0 where
+  pub body : o.body ≤ length bytes
+  pub ends : first_bad_end 0 ((length bytes - o.body) / 2) 0 o.entries.items ≡ None
+
+-- the bits of a segment, of those of the unit
+abbrev pub segment_bits : List ℕ → Outer → ℕ → List Bool
+segment_bits bytes o j =
+    let es = o.entries.items in
+    take (16 * (end_at es j - end_before es j)) (drop (8 * (o.body + 2 * end_before es j)) (bits_of bytes))

@@ -1,12 +1,13 @@
 -- The unit that is written for a timing, a major sync, entries and a body.
-use Rattle.std.specs.Prelude.{◌≡◌, ℕ, ◌+◌, ◌/◌, ◌%◌, ◌<◌, ◌≤◌, Bool, false, List, [], length, Option, Some, None, is_some, bit_xor}
+use Rattle.std.specs.Prelude.{◌≡◌, ℕ, ◌+◌, ◌/◌, ◌%◌, ◌<◌, ◌≤◌, Bool, false, List, [], ◌++◌, length, Option, Some, None, is_some, IfSome, bit_xor}
 use Rattle.mlp_syntax.specs.declared.major.MajorSync.{MajorSync}
 use Rattle.mlp_syntax.specs.declared.unit.DirEntry.{DirEntry}
 use Rattle.mlp_syntax.specs.declared.unit.UnitHead.{UnitHead}
+use Rattle.mlp_bits.specs.Bits.{bits_of}
 use Rattle.mlp_layout.specs.Layout.{next_is}
-use Rattle.mlp_major.specs.MajorSync.{major_sync, sync, IsUsable}
-use Rattle.mlp_unit.specs.Directory.{directory, directory_size}
-use Rattle.mlp_unit.specs.AccessUnit.{AccessUnit, major_size, parity_of, first_bad_end}
+use Rattle.mlp_major.specs.MajorSync.{major_sync, sync, IsUsable, KeepsRules}
+use Rattle.mlp_unit.specs.Directory.{directory, directory_size, first_failing, may_stand}
+use Rattle.mlp_unit.specs.AccessUnit.{AccessUnit, head, in_force, substreams_of, stream_kind, major_size, is_restart_flag, parity_of, first_bad_end}
 
 abbrev pub MajorFits : Option MajorSync → Type 0
 MajorFits None = Unit {0}
@@ -15,6 +16,10 @@ MajorFits (Some m) = (major_sync None).Fits m
 abbrev pub major_text : Option MajorSync → List Bool
 major_text None = []
 major_text (Some m) = (major_sync None).spelling m
+
+-- the text of a unit: head, major sync, directory, and the segments and what follows them
+abbrev pub unit_text : AccessUnit → List Bool
+unit_text u = head.spelling u.head ++ (major_text u.major ++ ((directory (length u.entries)).spelling u.entries ++ bits_of u.body))
 
 -- the entries are as many as a major sync tells
 abbrev pub CountFits : Option MajorSync → ℕ → Type 0
@@ -38,6 +43,15 @@ pub record Writable (major : Option MajorSync) (entries : List DirEntry) (body :
   pub ends : first_bad_end 0 (length body / 2) 0 entries ≡ None
   -- an entry doesn't look like a major sync
   pub unlike : is_some major ≡ false → next_is 31 sync ((directory (length entries)).spelling entries) ≡ false
+
+-- what the units before it, of which the first had this sync, ask of a unit's major sync and entries
+pub record MayFollow (first major : Option MajorSync) (entries : List DirEntry) : Type 0 where
+  pub sync : IfSome major (KeepsRules first)
+  pub count : substreams_of (in_force first major) ≡ length entries
+  -- only TrueHD has extra words
+  pub extra : first_failing (may_stand (stream_kind (in_force first major))) 0 entries ≡ None
+  -- a restart is absent exactly where there is no major sync
+  pub flags : first_failing (is_restart_flag (is_some major)) 0 entries ≡ None
 
 -- how many bytes the unit has
 abbrev pub unit_size : Option MajorSync → List DirEntry → List ℕ → ℕ

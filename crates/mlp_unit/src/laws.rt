@@ -1,14 +1,16 @@
 //! What holds of the layout of an access unit.
-ghost use Rattle.std.specs.Prelude.{◌≡◌, ◌≤◌, ◌*◌, ◌++◌, ℕ, List, Option, None, Ok, Err, is_some, length, take};
+ghost use Rattle.std.specs.Prelude.{◌≡◌, ◌≤◌, ◌<◌, ◌*◌, ◌^◌, ◌++◌, ℕ, Bool, List, Option, Some, Ok, Err, length, take};
 ghost use Rattle.mlp_syntax.specs.declared.fault.Broken.{Broken};
 ghost use Rattle.mlp_syntax.specs.declared.major.MajorSync.{MajorSync};
 ghost use Rattle.mlp_bits.specs.Bits.{bits_of};
-ghost use Rattle.mlp_layout.specs.Layout.{IsLayout};
+ghost use Rattle.mlp_bits.specs.Checks.{nibble_parity_of};
+ghost use Rattle.mlp_layout.specs.Layout.{IsLayout, Found};
+ghost use Rattle.mlp_major.specs.MajorSync.{Alike};
 ghost use Rattle.mlp_syntax.specs.declared.unit.DirEntry.{DirEntry};
-ghost use Rattle.mlp_layout.specs.Combined.{first_fault};
-ghost use Rattle.mlp_unit.specs.Directory.{first_failing, may_stand};
-ghost use Rattle.mlp_unit.specs.AccessUnit.{AccessUnit, access_unit, in_force, stream_kind, is_restart_flag, rules};
-ghost use Rattle.mlp_unit.specs.Written.{FirstUsable, Writable, unit_size, written_unit};
+ghost use Rattle.mlp_unit.specs.AccessUnit.{AccessUnit, access_unit, half_byte_sum};
+ghost use Rattle.mlp_layout.specs.Allowed.{Allowed};
+ghost use Rattle.mlp_unit.specs.Laws.{AreBytes, MayBeNext, SameLayout, CouldBeFirst, RewrittenMeets, FewerMeets};
+ghost use Rattle.mlp_unit.specs.Written.{FirstUsable, Writable, written_unit, unit_text};
 ghost use Rattle.mlp_unit.specs.Frame.{frame_of};
 ghost use Rattle.mlp_unit.specs.Outline.{HasOneOutline};
 
@@ -33,12 +35,51 @@ pub fn law_outline()
     ensures { (bytes : List ℕ) → HasOneOutline bytes }
 {}
 
-/// A unit that fits and meets the rules is read back from its spelling. Of the rules on a directory a written unit meets all
-/// where no extra word stands in MLP and each entry says rightly whether a restart is there.
+/// A unit that fits and meets the rules is read back from its spelling.
 pub fn law_written()
-    ensures back { (first : Option MajorSync) (u : AccessUnit) → (access_unit first).Fits u → (access_unit first).Meets u → (access_unit first).read ((access_unit first).spelling u) 0 ≡ Ok (u, length ((access_unit first).spelling u)) }
-    ensures rules { (first : Option MajorSync) (timing : ℕ) (major : Option MajorSync) (entries : List DirEntry) (body : List ℕ) → Writable major entries body → unit_size major entries body ≤ 8190
-        → first_failing (may_stand (stream_kind (in_force first major))) 0 entries ≡ None → first_failing (is_restart_flag (is_some major)) 0 entries ≡ None → first_fault (rules first) (written_unit timing major entries body) ≡ None }
+    ensures { (first : Option MajorSync) (u : AccessUnit) → Allowed (access_unit first) u
+        → (access_unit first).read ((access_unit first).spelling u) 0 ≡ Ok (u, length ((access_unit first).spelling u)) }
+{}
+
+/// The text of a unit that fits is that of its head, its major sync, its directory and its body, whatever the first sync.
+pub fn law_text()
+    ensures { (first : Option MajorSync) (u : AccessUnit) → (access_unit first).Fits u
+        → (access_unit first).spelling u ≡ unit_text u }
+{}
+
+/// What `is_writable` tells of and what may follow is written as a unit that fits and meets the rules.
+pub fn law_meets()
+    ensures { (first : Option MajorSync) (timing : ℕ) (major : Option MajorSync) (entries : List DirEntry) (body : List ℕ)
+        → MayBeNext first timing major entries body → Allowed (access_unit first) (written_unit timing major entries body) }
+{}
+
+/// Behind first major syncs of one kind, one rate and one number of substreams units are the same.
+pub fn law_alike()
+    ensures { (a b : MajorSync) → Alike a b → SameLayout (access_unit (Some a)) (access_unit (Some b)) }
+{}
+
+/// A unit with a major sync could be the stream's first one, and the units behind it wouldn't change.
+pub fn law_first()
+    ensures { (first m : MajorSync) (all : List Bool) (u : AccessUnit) → Found (access_unit (Some first)) all 0 u
+        → u.major ≡ Some m → CouldBeFirst first m all u }
+{}
+
+/// A unit that meets the rules still does with another timing and with another body of as many bytes.
+pub fn law_rewritten()
+    ensures { (first : Option MajorSync) (timing : ℕ) (u : AccessUnit) (body : List ℕ) → FirstUsable first
+        → Allowed (access_unit first) u → timing < 2 ^ 16 → AreBytes body → length body ≡ length u.body
+        → RewrittenMeets first timing u body }
+{}
+
+/// What an extraction makes of a unit that meets the rules can be written, and meets them in the stream that it makes.
+pub fn law_fewer()
+    ensures { (k : ℕ) (first : Option MajorSync) (u : AccessUnit) → FirstUsable first → Allowed (access_unit first) u
+        → k < length u.entries → FewerMeets k first u }
+{}
+
+/// The parity of head and directory, over their bits, is that of their bytes.
+pub fn law_parity()
+    ensures { (bytes : List ℕ) → AreBytes bytes → half_byte_sum (bits_of bytes) ≡ nibble_parity_of bytes }
 {}
 
 /// A unit that was read is the one that is written for its timing, major sync, entries and body. So its own bytes are

@@ -14,8 +14,5 @@ pub use directory::read_directory;
 pub use fitting::is_writable;
 pub use head::frame;
 pub use outer::read_outer;
-pub use segment::segment_range;
+pub use segment::{segment_bytes, segment_range};
 pub use writing::write_unit;
-
-#[cfg(test)]
-mod tests;

@@ -8,7 +8,7 @@ ghost use Rattle.mlp_layout.specs.Combined.{first_fault, present};
 ghost use Rattle.mlp_major.specs.MajorSync.{major_sync, sync, IsUsable};
 ghost use Rattle.mlp_unit.specs.AccessUnit.{in_force, stream_kind, substreams_of, major_size, behind_sync, parts, rules, access_unit};
 ghost use Rattle.mlp_unit.specs.Frame.{frame_of};
-ghost use Rattle.mlp_unit.specs.Shape.{unit_of, unit_with, body_place};
+ghost use Rattle.mlp_unit.specs.Shape.{unit_of, unit_with, body_place, HoldsSegments};
 
 use crate::directory::read_entries;
 use crate::head::read_head;
@@ -182,6 +182,8 @@ pub fn read_outer(unit: &[u8], first: Option<&MajorSync>) -> Result<Outer, Broke
     ensures read { MatchResult result (λ o. (access_unit (option_copied first.entry)).read (bits_of unit.now) 0 ≡ Ok (unit_with unit.now o, 8 * length unit.now))
         (λ e. (access_unit (option_copied first.entry)).read (bits_of unit.now) 0 ≡ Err e) }
     ensures body { IfOk result (λ o. o.body ≡ body_place (unit_with unit.now o)) }
+    ensures count { IfOk result (λ o. length o.entries.items ≡ substreams_of (in_force (option_copied first.entry) o.major)) }
+    ensures ends { IfOk result (HoldsSegments unit.now) }
     ensures usable { IfOk result (λ o. IfSome o.major IsUsable) }
 {
     let mut major: Option<MajorSync> = None;

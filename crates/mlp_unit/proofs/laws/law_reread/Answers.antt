@@ -9,10 +9,14 @@ use Rattle.mlp_unit.proofs.Reread.{writable, rewritten}
 use Rattle.mlp_unit.proofs.laws.law_reread.Goals as goal
 
 pub returns-clause-writable : goal.returns-clause-writable
-returns-clause-writable c = λ first bytes u usable e. writable first usable bytes u e
+returns-clause-writable c = λ first bytes u usable e.
+    let f = (is_found (access_unit_is first) (bits_of bytes) 0 (omega arith) (u, 8 * length bytes) e).0 in
+    writable first u (λ none. usable) f.fits f.meets
 
 pub returns-clause-same : goal.returns-clause-same
-returns-clause-same c = λ first bytes u usable e. rewritten first usable bytes u e
+returns-clause-same c = λ first bytes u usable e.
+    let f = (is_found (access_unit_is first) (bits_of bytes) 0 (omega arith) (u, 8 * length bytes) e).0 in
+    rewritten first u (λ none. usable) f.fits f.meets
 
 pub returns-clause-bits : goal.returns-clause-bits
 returns-clause-bits c = λ first bytes u e.

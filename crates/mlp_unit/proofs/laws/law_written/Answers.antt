@@ -1,8 +1,5 @@
-use Rattle.mlp_unit.proofs.RoundTrip.{read_back, written_rules}
+use Rattle.mlp_unit.proofs.RoundTrip.{read_back}
 use Rattle.mlp_unit.proofs.laws.law_written.Goals as goal
 
-pub returns-clause-back : goal.returns-clause-back
-returns-clause-back c = read_back
-
-pub returns-clause-rules : goal.returns-clause-rules
-returns-clause-rules c = written_rules
+pub returns : goal.returns
+returns c = λ first u a. read_back first u a.fits a.meets

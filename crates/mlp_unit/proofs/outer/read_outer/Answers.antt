@@ -5,12 +5,16 @@ use Rattle.mlp_bits.specs.Bits.{bits_of}
 use Rattle.mlp_bits.specs.Cursor.{Cursor}
 use Rattle.mlp_syntax.specs.declared.fault.Broken.{Broken}
 use Rattle.mlp_syntax.specs.declared.major.MajorSync.{MajorSync}
+use Rattle.arrayvec.specs.ArrayVec.{ArrayVec}
 use Rattle.mlp_syntax.specs.declared.unit.DirEntry.{DirEntry}
+use Rattle.mlp_syntax.specs.declared.unit.Outer.{Outer}
+use Rattle.mlp_syntax.specs.declared.unit.UnitHead.{UnitHead}
 use Rattle.mlp_layout.specs.Reading.{Read, broken}
 use Rattle.mlp_layout.specs.Combined.{first_fault}
 use Rattle.mlp_layout.proofs.RuleReading.{under_err, under_ok, under_fails}
 use Rattle.mlp_unit.specs.AccessUnit.{AccessUnit, access_unit, head, parts, rules}
 use Rattle.mlp_unit.specs.Shape.{unit_of}
+use Rattle.mlp_unit.proofs.SegmentPlaces.{entry_count, holds_segments}
 use Rattle.mlp_unit.proofs.UnitReading.{framed_small, framed_head, parts_err, sync_err, sync_room, sync_place, sync_ok}
 use Rattle.mlp_unit.proofs.outer.read_outer.Goals as goal
 
@@ -78,6 +82,9 @@ check_directory-requires-clause-read c =
 pub check_directory-requires-clause-body : goal.check_directory-requires-clause-body
 check_directory-requires-clause-body c = rw (c.deref.ensures.0, c.place-body.ensures.value) c.in_ok-read_behind_sync.ensures.body
 
+abbrev outer_of : UnitHead → Option MajorSync → ArrayVec DirEntry → ℕ → Outer
+outer_of head major entries body = record { head = head; major = major; entries = entries; body = body }
+
 abbrev PartsAre : Option MajorSync → List ℕ → AccessUnit → Type 0
 PartsAre first bytes u = (parts first).read (bits_of bytes) 0 ≡ Ok (u, 8 * length bytes)
 
@@ -112,3 +119,11 @@ returns-clause-read c =
     let whole : PartsAre first bytes u = rw c.place-body.ensures.value (sym same ∙ c.in_ok-read_behind_sync.ensures.read) in
     let met : first_fault (rules first) u ≡ None = subst (λ (es : List DirEntry). first_fault (rules first) (unit es) ≡ None) c.deref.ensures.0 c.in_ok-check_directory.ensures in
     under_ok (bits_of bytes) 0 (rules first) (parts first) u (8 * length bytes) whole met
+
+pub returns-clause-count : goal.returns-clause-count
+returns-clause-count c = entry_count (option_copied c.args.first) c.args.unit.now (outer_of c.in_ok-head.head c.read_present.new.major c.read_behind_sync.new.entries (c.place-body.result / 8)) (returns-clause-read c)
+
+pub returns-clause-ends : goal.returns-clause-ends
+returns-clause-ends c =
+    let at : c.place-body.result / 8 ≡ c.read_behind_sync.new.r.place / 8 = ap (λ (n : ℕ). n / 8) c.place-body.ensures.value in
+    holds_segments (option_copied c.args.first) c.args.unit.now (outer_of c.in_ok-head.head c.read_present.new.major c.read_behind_sync.new.entries (c.place-body.result / 8)) (returns-clause-read c) (at ∙ c.in_ok-read_behind_sync.ensures.body)

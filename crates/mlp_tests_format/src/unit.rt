@@ -1,7 +1,9 @@
 //! The rules on an access unit's outer part, each with units of which it is the first that fails; units that are written as
 //! they were read; and a directory with its segment.
-use crate::{frame, is_writable, read_directory, read_outer, segment_range, write_unit};
 use mlp_syntax::{Broken, DirEntry, Field, Kind, MajorSync, Outer, UnitBytes, UnitTooLong};
+use mlp_unit::{
+    frame, is_writable, read_directory, read_outer, segment_bytes, segment_range, write_unit,
+};
 use std::process::Abort;
 
 /// A silent first unit.
@@ -552,21 +554,6 @@ fn rules_on_directory(rt: HostRuntime) {
     }
 }
 
-#[test]
-fn a_cut_unit_is_no_frame(rt: HostRuntime) {
-    let short = Broken {
-        field: Field::UnitHeader,
-        bit: 0,
-    };
-    let long = Broken {
-        field: Field::UnitLength,
-        bit: 4,
-    };
-    assert_eq!(rt; frame(&FIRST_TRUEHD[..3]), Err(short));
-    assert_eq!(rt; frame(&FIRST_TRUEHD[..57]), Err(long));
-    assert_eq!(rt; frame(&FIRST_TRUEHD), Ok(58));
-}
-
 /// A silent first unit with a long major sync.
 const FIRST_LONG: [u8; 60] = [
     0xE0, 0x1E, 0, 0, 0xF8, 0x72, 0x6F, 0xBA, 0, 0, 0x80, 1, 0xB7, 0x52, 0, 0, 0, 0, 0x97, 0x6F,
@@ -648,7 +635,7 @@ fn write_silent(
 }
 
 #[test]
-fn the_longest_unit_is_written(rt: HostRuntime) {
+fn the_longest_unit_is_written_and_none_like_a_sync(rt: HostRuntime) {
     let mut out = UnitBytes::new();
     assert_eq!(rt; write_silent(&rt, 6, 12, &mut out), Ok(()));
     let silent = [
@@ -663,39 +650,45 @@ fn the_longest_unit_is_written(rt: HostRuntime) {
         &out[..8],
         [0x0F, 0xFF, 0, 0x28, 0x6F, 0xFC, 0, 0].as_slice()
     );
+    assert!(rt; !is_writable(None, &[entry(Some(0x6FBA), 0x872)], &[0; 2]));
+}
+
+/// The one segment of a unit behind a first sync.
+fn segment<'a>(rt: &impl Abort, unit: &'a [u8], first: &MajorSync) -> Result<&'a [u8], Broken> {
+    assert!(rt; frame(unit) == Ok(unit.len()));
+    assert!(rt; first.substreams <= 4);
+    let outer = read_outer(unit, Some(first))?;
+    assert!(rt; outer.entries.len() == 1);
+    assert!(rt; outer.body <= 8190);
+    assert_eq!(rt; segment_range(&outer, 0), (6, 18));
+    Ok(segment_bytes(unit, &outer, 0))
 }
 
 #[test]
-fn what_looks_like_a_major_sync_is_not_writable(rt: HostRuntime) {
-    let body = [0; 2];
-    assert!(rt; !is_writable(None, &[entry(Some(0x6FBA), 0x872)], &body));
-}
-
-#[test]
-fn a_directory_and_its_segments(rt: HostRuntime) {
-    let next = [
-        0xC0, 0x09, 0x00, 0x28, 0x60, 0x06, 0, 0, 0, 0, 0, 0, 0, 0, 0, 0, 0, 0,
+fn frames_directories_and_segments(rt: HostRuntime) {
+    let short = Broken {
+        field: Field::UnitHeader,
+        bit: 0,
+    };
+    let long = Broken {
+        field: Field::UnitLength,
+        bit: 4,
+    };
+    assert_eq!(rt; frame(&FIRST_TRUEHD[..3]), Err(short));
+    assert_eq!(rt; frame(&FIRST_TRUEHD[..57]), Err(long));
+    assert_eq!(rt; frame(&FIRST_TRUEHD), Ok(58));
+    let unit = [
+        0xC0, 0x09, 0x00, 0x28, 0x60, 0x06, 1, 2, 3, 4, 5, 6, 7, 8, 9, 10, 11, 12,
     ];
-    assert_eq!(rt; frame(&next), Ok(18));
-    let (entries, length) = read_directory(Kind::Fba, 1, &next[4..6])
+    let (entries, length) = read_directory(Kind::Fba, 1, &unit[4..6])
         .ok()
         .expect(&rt, "a directory");
     assert_eq!(rt; length, 2);
-    let entry = DirEntry {
-        extra: None,
-        restart_absent: true,
-        checked: true,
-        reserved: false,
-        end: 6,
-    };
-    assert_eq!(rt; entries.as_slice(), [entry].as_slice());
+    assert_eq!(rt; entries.as_slice(), [entry(None, 6)].as_slice());
     let first = outer(&rt, &FIRST_TRUEHD, None)
         .ok()
         .expect(&rt, "a first unit");
-    let unit = outer(&rt, &next, first.major.as_ref())
-        .ok()
-        .expect(&rt, "a unit");
-    assert_eq!(rt; unit.body, 6);
-    assert_eq!(rt; unit.entries.len(), 1);
-    assert_eq!(rt; segment_range(&unit, 0), (6, 18));
+    let major = first.major.as_ref().expect(&rt, "a major sync");
+    let bytes = segment(&rt, &unit, major).ok().expect(&rt, "a segment");
+    assert_eq!(rt; bytes, [1, 2, 3, 4, 5, 6, 7, 8, 9, 10, 11, 12].as_slice());
 }
