@@ -1,27 +1,5 @@
 // The kernels of crates/bench_kernels in plain Rust: the same words, the same sum.
 
-/// The latest values, the latest first, sliding down a buffer.
-struct History {
-    values: [i32; 64],
-    at: usize,
-}
-
-impl History {
-    fn new() -> Self {
-        History { values: [0; 64], at: 0 }
-    }
-
-    #[inline]
-    fn push(&mut self, value: i32, count: usize) {
-        if self.at == 0 {
-            self.values.copy_within(0..count - 1, 65 - count);
-            self.at = 65 - count;
-        }
-        self.at -= 1;
-        self.values[self.at] = value;
-    }
-}
-
 fn residuals() -> [i32; 160] {
     let mut seed: i32 = 1;
     let mut block = [0; 160];
@@ -33,29 +11,57 @@ fn residuals() -> [i32; 160] {
 }
 
 #[inline]
-fn sum(coeffs: &[i32], history: &History) -> i64 {
-    let values = &history.values[history.at..history.at + coeffs.len()];
+fn sum<const N: usize>(coeffs: &[i32; N], values: &[i32]) -> i64 {
     coeffs.iter().zip(values).map(|(&c, &v)| i64::from(c) * i64::from(v)).sum()
 }
 
-#[inline(never)]
-fn restore<const M: usize, const K: usize>(outputs: &mut History, differences: &mut History, fir: &[i32; M], iir: &[i32; K], step: u32, block: &mut [i32]) {
-    for place in block {
-        let prediction = (sum(fir, outputs) + sum(iir, differences)) >> 6;
-        let output = (((prediction + i64::from(*place)) >> step) << step) as i32;
-        outputs.push(output, 8);
-        differences.push((i64::from(output) - prediction) as i32, 4);
-        *place = output;
+/// The latest outputs and differences of a channel, the latest first.
+struct Past {
+    outputs: [i32; 8],
+    differences: [i32; 4],
+}
+
+/// The latest values before a block, the oldest first.
+fn put_before(values: &[i32], line: &mut [i32; 176]) {
+    for (i, &value) in values.iter().enumerate() {
+        line[15 - i] = value;
     }
 }
 
+/// The last values of a line, the latest first.
+fn put_back(line: &[i32], values: &mut [i32]) {
+    for (value, &from) in values.iter_mut().zip(line.iter().rev()) {
+        *value = from;
+    }
+}
+
+/// A block by coefficients of which the first belongs to the oldest value.
+#[inline(never)]
+fn restore<const M: usize, const K: usize>(past: &mut Past, fir: &[i32; M], iir: &[i32; K], step: u32, block: &mut [i32]) {
+    let (mut outputs, mut differences) = ([0; 176], [0; 176]);
+    let end = 16 + block.len();
+    put_before(&past.outputs, &mut outputs);
+    put_before(&past.differences, &mut differences);
+    outputs[16..end].copy_from_slice(block);
+    for i in 16..end {
+        let prediction = (sum(fir, &outputs[i - M..i]) + sum(iir, &differences[i - K..i])) >> 6;
+        let output = (((prediction + i64::from(outputs[i])) >> step) << step) as i32;
+        outputs[i] = output;
+        differences[i] = (i64::from(output) - prediction) as i32;
+    }
+    block.copy_from_slice(&outputs[16..end]);
+    put_back(&outputs[..end], &mut past.outputs);
+    put_back(&differences[..end], &mut past.differences);
+}
+
+/// Filters of other orders have zeros in front.
 fn restored<const M: usize, const K: usize>(fir: [i32; M], iir: [i32; K], step: u32, count: u32) -> i32 {
     let from = residuals();
-    let (mut outputs, mut differences) = (History::new(), History::new());
+    let mut past = Past { outputs: [0; 8], differences: [0; 4] };
     let mut all: i32 = 0;
     for _ in 0..count {
         let mut block = from;
-        restore(&mut outputs, &mut differences, &std::hint::black_box(fir), &std::hint::black_box(iir), step, &mut block);
+        restore(&mut past, &std::hint::black_box(fir), &std::hint::black_box(iir), step, &mut block);
         all = all.wrapping_add(block[159]);
     }
     all
@@ -91,9 +97,12 @@ fn main() {
     let count = words[2].parse::<u32>().unwrap();
     let all = match words[0].as_str() {
         "matrix6" => matrixed(step, count),
-        "fir8" => restored([1, 2, 3, 4, 5, 6, 7, 8], [], step, count),
-        "fir2" => restored([2, -1], [], step, count),
-        _ => restored([8, -4], [-2], step, count),
+        "fir8" => restored([8, 7, 6, 5, 4, 3, 2, 1], [], step, count),
+        "fir4" => restored([1, 3, -1, 2], [], step, count),
+        "fir2" => restored([-1, 2], [], step, count),
+        "fir8iir4" => restored([8, 7, 6, 5, 4, 3, 2, 1], [1, -2, 3, 4], step, count),
+        "fir4iir2" => restored([1, 3, -1, 2], [0, 0, -2, 4], step, count),
+        _ => restored([-4, 8], [0, 0, 0, -2], step, count),
     };
     println!("{all}");
 }

@@ -98,25 +98,39 @@ fn matrixed(step: u8, count: u32) -> i32
     sum
 }
 
+/// Restores by filters of some orders, with coefficients from a list on.
+fn filtered(fir: &[i32], iir: &[i32], step: u8, count: u32) -> i32
+    requires fir_few { length fir.now ≤ 8 }
+    requires iir_few { length iir.now ≤ 4 }
+    requires fir_small { All IsCoefficient (scaled 0 fir.now) }
+    requires iir_small { All IsCoefficient (scaled 0 iir.now) }
+    requires step { step < 16 }
+{
+    restored(&filter(fir), &filter(iir), step, count)
+}
+
 fn run(kernel: &str, step: u8, count: u32) -> i32
     requires { step < 16 }
 {
-    let none: [i32; 0] = [];
     if kernel == "matrix6" {
         return matrixed(step, count);
     }
     if kernel == "fir8" {
-        return restored(
-            &filter(&[1, 2, 3, 4, 5, 6, 7, 8]),
-            &filter(&none),
-            step,
-            count,
-        );
+        return filtered(&[1, 2, 3, 4, 5, 6, 7, 8], &[], step, count);
+    }
+    if kernel == "fir4" {
+        return filtered(&[2, -1, 3, 1], &[], step, count);
     }
     if kernel == "fir2" {
-        return restored(&filter(&[2, -1]), &filter(&none), step, count);
+        return filtered(&[2, -1], &[], step, count);
     }
-    restored(&filter(&[8, -4]), &filter(&[-2]), step, count)
+    if kernel == "fir8iir4" {
+        return filtered(&[1, 2, 3, 4, 5, 6, 7, 8], &[4, 3, -2, 1], step, count);
+    }
+    if kernel == "fir4iir2" {
+        return filtered(&[2, -1, 3, 1], &[4, -2], step, count);
+    }
+    filtered(&[8, -4], &[-2], step, count)
 }
 
 fn main(rt: HostRuntime) -> io::Result<()> {

@@ -5,3 +5,4 @@ pub mod Blocks
 pub mod Padding
 pub mod Sequences
 pub mod FrameLists
+pub mod LineLaws

@@ -1,10 +1,10 @@
 -- Zeros behind a past: no filter sees them.
 use Rattle.std.proofs.Common.{◌≡◌, ℕ, zero, suc, ◌+◌, ◌≤◌, List, [], ◌∷◌, ◌++◌, length, take, ℤ, pos, ◌+ℤ◌, ◌-ℤ◌, ◌*ℤ◌, arith, refl, sym, ◌∙◌, ap, replicate}
 use Rattle.std.proofs.lemmas.Int.{ints}
-use Rattle.std.proofs.lemmas.List.{take-replicate}
+use Rattle.std.proofs.lemmas.List.{take-replicate, take-append-le}
 use Rattle.std.proofs.Math.Seq.{drop-nil, take-nil}
-use Rattle.mlp_arith.specs.Words.{floor_by, wrap}
-use Rattle.mlp_predict.specs.Prediction.{dot, Past, Filters, predicted, replaced, past_after, with_state, latest, with_zeros}
+use Rattle.mlp_arith.specs.Words.{floor_by, clear, wrap}
+use Rattle.mlp_predict.specs.Prediction.{dot, Past, Filters, predicted, restored, replaced, past_after, with_state, latest, with_zeros, outputs_of, past_of}
 
 -- ---- one list
 
@@ -67,3 +67,35 @@ pub with_state-with_zeros : (m n : ℕ) (state : List ℤ) (past : Past) → len
 with_state-with_zeros m n state past l =
     ap (λ (es : List ℤ). record { outputs = take m (past.outputs ++ replicate m (pos 0)); differences = es })
     (replaced_zeros n n n state past.differences l (omega arith) (omega arith))
+
+-- ---- a block
+
+pub outputs_of-with_zeros : (m n : ℕ) (f : Filters) (past : Past) (q : ℕ) (rs : List ℤ) → outputs_of f (with_zeros m n past) q rs ≡ outputs_of f past q rs
+outputs_of-with_zeros m n f past q [] = refl
+outputs_of-with_zeros m n f past q (r ∷ rs) =
+    let x : ℤ = restored f past q r in
+    let older : Past = with_zeros m n past in
+    ap (λ p. wrap (clear q (p +ℤ r)) ∷ outputs_of f (past_after f older (wrap (clear q (p +ℤ r)))) q rs) (predicted-with_zeros m n f past)
+    ∙ ap (λ (p : Past). x ∷ outputs_of f p q rs) (past_after-with_zeros m n f past x)
+    ∙ ap (λ (xs : List ℤ). x ∷ xs) (outputs_of-with_zeros m n f (past_after f past x) q rs)
+
+pub past_of-with_zeros : (m n : ℕ) (f : Filters) (past : Past) (xs : List ℤ) → past_of f (with_zeros m n past) xs ≡ with_zeros m n (past_of f past xs)
+past_of-with_zeros m n f past [] = refl
+past_of-with_zeros m n f past (x ∷ xs) = ap (λ (p : Past). past_of f p xs) (past_after-with_zeros m n f past x) ∙ past_of-with_zeros m n f (past_after f past x) xs
+
+-- as long as a past was, it is behind a block, and the latest values aren't the zeros
+record IsLong (m n : ℕ) (past : Past) : Type 0 where
+  outputs : m ≤ length past.outputs
+  differences : n ≤ length past.differences
+
+past_of_long : (m n : ℕ) (f : Filters) (past : Past) (xs : List ℤ) → IsLong m n past → IsLong m n (past_of f past xs)
+past_of_long m n f past [] h = h
+past_of_long m n f past (x ∷ xs) h = past_of_long m n f (past_after f past x) xs (record { outputs = omega (arith, h.outputs); differences = omega (arith, h.differences) })
+
+pub latest-past_of : (m n a b : ℕ) (f : Filters) (past : Past) (xs : List ℤ) → m ≤ length past.outputs → n ≤ length past.differences →
+    latest m n (with_zeros a b (past_of f past xs)) ≡ latest m n (past_of f past xs)
+latest-past_of m n a b f past xs k l =
+    let h : IsLong m n (past_of f past xs) = past_of_long m n f past xs (record { outputs = k; differences = l }) in
+    let after : Past = past_of f past xs in
+    ap (λ (ys : List ℤ). record { outputs = ys; differences = take n (after.differences ++ replicate b (pos 0)) }) (take-append-le m after.outputs (replicate a (pos 0)) h.outputs)
+    ∙ ap (λ (ys : List ℤ). record { outputs = take m after.outputs; differences = ys }) (take-append-le n after.differences (replicate b (pos 0)) h.differences)

@@ -1,3 +1,4 @@
 pub mod Prediction
 pub mod Filters
 pub mod Outputs
+pub mod Lines

@@ -1,6 +1,6 @@
 //! Filters, prepared for sums.
 
-ghost use Rattle.std.specs.Prelude.{◌≡◌, All, ◌<◌, ◌≤◌, ◌^◌, ◌-◌, ◌++◌, length, replicate, pos, ◌*ℤ◌, FitsSigned};
+ghost use Rattle.std.specs.Prelude.{◌≡◌, All, ◌<◌, ◌≤◌, ◌^◌, ◌-◌, ◌++◌, length, replicate, reverse, pos, ◌*ℤ◌, FitsSigned};
 ghost use Rattle.std.specs.Int.{w32};
 ghost use Rattle.mlp_predict.specs.Prediction.{IsCoefficient};
 ghost use Rattle.mlp_predict.specs.Filters.{scaled, shift_where};
@@ -29,6 +29,20 @@ pub fn taps<const M: usize>(fields: &[i32], coeff_shift: u8) -> [i32; M]
         taps[i] = times(fields[i], coeff_shift);
     }
     taps
+}
+
+/// The same coefficients, the last first, with zeros in front of them.
+#[inline]
+pub fn taps_back<const M: usize>(fields: &[i32], coeff_shift: u8) -> [i32; M]
+    requires room { length fields.now ≤ M }
+    requires shift { coeff_shift < 16 }
+    requires small { All IsCoefficient (scaled coeff_shift fields.now) }
+    ensures value { reverse result ≡ scaled coeff_shift fields.now ++ replicate (M - length fields.now) (pos 0) }
+    ensures small { All IsCoefficient result }
+{
+    let mut back: [i32; M] = taps(fields, coeff_shift);
+    back.reverse();
+    back
 }
 
 /// The shift of both filters: that of one that is there.

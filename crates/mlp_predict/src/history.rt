@@ -1,6 +1,6 @@
 //! The latest values of a sequence.
 
-ghost use Rattle.std.specs.Prelude.{◌≡◌, ◌<◌, ◌≤◌, ◌∷◌, ◌-◌, ◌++◌, take, drop, length, All, FitsSigned, pos, slice_get, slice_set, Some, replicate};
+ghost use Rattle.std.specs.Prelude.{◌≡◌, ◌<◌, ◌≤◌, ◌∷◌, ◌-◌, ◌++◌, take, drop, reverse, length, All, FitsSigned, pos, slice_get, slice_set, Some, replicate};
 ghost use Rattle.std.specs.Int.{w32};
 ghost use Rattle.mlp_predict.specs.Filters.{scaled};
 
@@ -87,6 +87,17 @@ impl<const N: usize> History<N> {
         let _ = self.as_slice();
         for i in 0..values.len() {
             self.replace(i, times(values[i], shift));
+        }
+    }
+
+    /// Puts the last values of a line, the oldest first, in the place of all values.
+    pub fn replace_all(&mut self, line: &[i32])
+        requires { N ≤ length line.now }
+        ensures { self.new ≡ take N (reverse line.now) }
+    {
+        let _ = self.as_slice();
+        for i in 0..N {
+            self.replace(i, line[line.len() - 1 - i]);
         }
     }
 

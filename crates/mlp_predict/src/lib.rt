@@ -5,6 +5,7 @@
 mod filters;
 mod history;
 pub mod laws;
+mod lines;
 mod predictor;
 mod sample;
 

@@ -6,8 +6,9 @@ ghost use Rattle.mlp_arith.specs.Words.{clear};
 ghost use Rattle.mlp_predict.specs.Prediction.{predicted, restored, reduced, past_after, past_of, outputs_of, residuals_of, with_state, latest, AreSmall, zeros};
 ghost use Rattle.mlp_predict.specs.Filters.{filters_of, differences_of, AreFilters, IsState};
 
-use crate::filters::{shift_of, taps};
+use crate::filters::{shift_of, taps, taps_back};
 use crate::history::History;
+use crate::lines::restore_between;
 use crate::sample::{difference_of, dot, output_of, residual_of};
 use mlp_arith::floor_by;
 use mlp_syntax::{Filter, FilterState};
@@ -230,32 +231,6 @@ impl<const F: usize, const I: usize> Predictor<F, I> {
         Some(residual)
     }
 
-    /// A block of outputs by prepared coefficients.
-    fn restore_by<const M: usize, const K: usize>(
-        &mut self,
-        fir: &[i32; M],
-        iir: &[i32; K],
-        shift: u8,
-        step: u8,
-        block: &mut [i32],
-    )
-        requires any_output { 0 < F }
-        requires any_difference { 0 < I }
-        requires fir_room { F ≤ 16 }
-        requires iir_room { I ≤ 16 }
-        requires fir_known { M ≤ F }
-        requires iir_known { K ≤ I }
-        requires filters { AreSmall (record { fir = fir.now; iir = iir.now; shift = shift }) }
-        requires step { step < 16 }
-        ensures outputs { block.new ≡ outputs_of (record { fir = fir.now; iir = iir.now; shift = shift }) self.old step block.old }
-        ensures past { self.new ≡ latest F I (past_of (record { fir = fir.now; iir = iir.now; shift = shift }) self.old block.new) }
-    {
-        let _ = &self.outputs;
-        for i in 0..block.len() {
-            block[i] = self.restored(fir, iir, shift, step, block[i]);
-        }
-    }
-
     /// A block of residuals by prepared coefficients; false where some residual hasn't 32 signed bits.
     fn reduce_by<const M: usize, const K: usize>(
         &mut self,
@@ -297,22 +272,36 @@ impl<const F: usize, const I: usize> Predictor<F, I> {
         step: u8,
         block: &mut [i32],
     )
-        requires any_output { 0 < F }
-        requires any_difference { 0 < I }
         requires fir_room { F ≤ 16 }
         requires iir_room { I ≤ 16 }
-        requires fir_known { M ≤ F }
-        requires iir_known { K ≤ I }
+        requires fir_products { M ≤ 16 }
+        requires iir_products { K ≤ 16 }
         requires fir_few { length fir.now.coeffs.items ≤ M }
         requires iir_few { length iir.now.coeffs.items ≤ K }
         requires filters { AreFilters fir.now iir.now }
         requires step { step < 16 }
+        requires most { length block.old ≤ 160 }
         ensures outputs { block.new ≡ outputs_of (filters_of fir.now iir.now) self.old step block.old }
         ensures past { self.new ≡ latest F I (past_of (filters_of fir.now iir.now) self.old block.new) }
     {
-        let fir_taps: [i32; M] = taps(fir.coeffs.as_slice(), fir.coeff_shift);
-        let iir_taps: [i32; K] = taps(iir.coeffs.as_slice(), iir.coeff_shift);
-        self.restore_by(&fir_taps, &iir_taps, shift_of(fir, iir), step, block);
+        let fir_taps: [i32; M] = taps_back(fir.coeffs.as_slice(), fir.coeff_shift);
+        let iir_taps: [i32; K] = taps_back(iir.coeffs.as_slice(), iir.coeff_shift);
+        let mut outputs = [0; 176];
+        let mut differences = [0; 176];
+        restore_between(
+            &fir_taps,
+            &iir_taps,
+            shift_of(fir, iir),
+            step,
+            self.outputs.as_slice(),
+            self.differences.as_slice(),
+            &mut outputs,
+            &mut differences,
+            block,
+        );
+        let end = 16 + block.len();
+        self.outputs.replace_all(&outputs[..end]);
+        self.differences.replace_all(&differences[..end]);
     }
 
     /// Replaces a block of residuals by the outputs that `restore` gives for them one after another.
@@ -328,20 +317,23 @@ impl<const F: usize, const I: usize> Predictor<F, I> {
         ensures past { self.new ≡ latest F I (past_of (filters_of fir.now iir.now) self.old block.new) }
     {
         let order = fir.coeffs.as_slice().len();
-        if iir.coeffs.as_slice().len() > 0 {
-            return self.restore_with::<F, I>(fir, iir, step, block);
+        let iir_order = iir.coeffs.as_slice().len();
+        if iir_order == 0 {
+            return match order {
+                0..=2 => self.restore_with::<2, 0>(fir, iir, step, block),
+                3..=4 => self.restore_with::<4, 0>(fir, iir, step, block),
+                5..=8 => self.restore_with::<8, 0>(fir, iir, step, block),
+                _ => self.restore_with::<16, 0>(fir, iir, step, block),
+            };
+        }
+        if iir_order > 4 {
+            return self.restore_with::<16, 16>(fir, iir, step, block);
         }
         match order {
-            0 => self.restore_with::<0, 0>(fir, iir, step, block),
-            1 => self.restore_with::<1, 0>(fir, iir, step, block),
-            2 => self.restore_with::<2, 0>(fir, iir, step, block),
-            3 => self.restore_with::<3, 0>(fir, iir, step, block),
-            4 => self.restore_with::<4, 0>(fir, iir, step, block),
-            5 => self.restore_with::<5, 0>(fir, iir, step, block),
-            6 => self.restore_with::<6, 0>(fir, iir, step, block),
-            7 => self.restore_with::<7, 0>(fir, iir, step, block),
-            8 => self.restore_with::<8, 0>(fir, iir, step, block),
-            _ => self.restore_with::<F, 0>(fir, iir, step, block),
+            0..=2 => self.restore_with::<2, 4>(fir, iir, step, block),
+            3..=4 => self.restore_with::<4, 4>(fir, iir, step, block),
+            5..=8 => self.restore_with::<8, 4>(fir, iir, step, block),
+            _ => self.restore_with::<16, 4>(fir, iir, step, block),
         }
     }
 
