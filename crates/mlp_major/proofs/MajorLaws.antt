@@ -61,10 +61,12 @@ fields_is = fixed_is _ _ _ (part_is _ kind_bit_is (λ k. search (layouts, format
 bits_32 : (kind : Kind) → Takes (format_info kind) (λ i. 32)
 unfolding format_info fbb fba
 bits_32 kind.Fbb = seen_takes _ _ fbb (λ f. 4 + (4 + (4 + (4 + (11 + (5 + 0)))))) (λ i. 32)
-    (part_takes _ _ _ _ _ (number_takes 4) (λ a. part_takes _ _ _ _ _ (number_takes 4) (λ a. part_takes _ _ _ _ _ (number_takes 4) (λ a. part_takes _ _ _ _ _ (number_takes 4) (λ a. part_takes _ _ _ _ _ (number_takes 11) (λ a. part_takes _ _ _ _ _ (number_takes 5) (λ a. made_takes _)))))))
+    (part_takes _ _ _ _ _ (number_takes 4) (λ a. part_takes _ _ _ _ _ (number_takes 4) (λ a. part_takes _ _ _ _ _ (number_takes 4)
+    (λ a. part_takes _ _ _ _ _ (number_takes 4) (λ a. part_takes _ _ _ _ _ (number_takes 11) (λ a. part_takes _ _ _ _ _ (number_takes 5) (λ a. made_takes _)))))))
     (λ f. refl)
 bits_32 kind.Fba = seen_takes _ _ fba (λ f. 4 + (4 + (2 + (2 + (5 + (2 + (13 + 0))))))) (λ i. 32)
-    (part_takes _ _ _ _ _ (number_takes 4) (λ a. part_takes _ _ _ _ _ (number_takes 4) (λ a. part_takes _ _ _ _ _ (number_takes 2) (λ a. part_takes _ _ _ _ _ (number_takes 2) (λ a. part_takes _ _ _ _ _ (number_takes 5) (λ a. part_takes _ _ _ _ _ (number_takes 2) (λ a. part_takes _ _ _ _ _ (number_takes 13) (λ a. made_takes _))))))))
+    (part_takes _ _ _ _ _ (number_takes 4) (λ a. part_takes _ _ _ _ _ (number_takes 4) (λ a. part_takes _ _ _ _ _ (number_takes 2)
+    (λ a. part_takes _ _ _ _ _ (number_takes 2) (λ a. part_takes _ _ _ _ _ (number_takes 5) (λ a. part_takes _ _ _ _ _ (number_takes 2) (λ a. part_takes _ _ _ _ _ (number_takes 13) (λ a. made_takes _))))))))
     (λ f. refl)
 
 extension_takes : (long : Bool) → Takes (extension long) (λ bytes. 8 * length bytes)

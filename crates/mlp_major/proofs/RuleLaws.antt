@@ -1,6 +1,6 @@
 -- Rules over a layout: what meets it and them, and which rule fails first.
 use Rattle.std.specs.Prelude.{◌&&◌}
-use Rattle.std.proofs.Common.{◌≡◌, ℕ, Bool, true, false, cond, List, [], ◌∷◌, Option, Some, None, refl}
+use Rattle.std.proofs.Common.{◌≡◌, ℕ, Bool, true, false, List, [], ◌∷◌, Option, Some, None, refl}
 use Rattle.mlp_layout.specs.Layout.{Layout, Rule, ruled}
 use Rattle.mlp_layout.specs.Combined.{under, first_fault, fault_or}
 

@@ -1,5 +1,5 @@
 -- Which major syncs have a spelling.
-use Rattle.std.proofs.Common.{◌≡◌, ◌↔◌, ℕ, zero, suc, ◌+◌, ◌*◌, ◌/◌, ◌^◌, ◌<◌, eqb, Bool, true, false, List, [], ◌∷◌, length, get_or, None, refl, sym, ◌∙◌, arith}
+use Rattle.std.proofs.Common.{◌≡◌, ◌↔◌, ℕ, suc, ◌+◌, ◌*◌, ◌/◌, ◌^◌, ◌<◌, eqb, Bool, true, false, List, [], ◌∷◌, length, get_or, None, refl, sym, ◌∙◌, arith}
 use Rattle.std.specs.Prelude.{IsTrue}
 use Rattle.std.proofs.lemmas.Bool.{eqb-true, eq-eqb}
 use Rattle.mlp_syntax.specs.declared.major.Kind.{Kind}
@@ -8,10 +8,10 @@ use Rattle.mlp_syntax.specs.declared.major.MajorSync.{MajorSync}
 use Rattle.mlp_bits.specs.Checks.{modulus16}
 use Rattle.mlp_bits.proofs.Remainders.{rem_from-smaller}
 use Rattle.mlp_layout.specs.Layout.{number_of, seen, ruled, opening, whole, part, made, item}
-use Rattle.mlp_layout.specs.Combined.{flag, fixed, checked, chosen, times}
+use Rattle.mlp_layout.specs.Combined.{fixed, checked, chosen}
 use Rattle.mlp_layout.proofs.CombinedLaws.{times_count}
 use Rattle.mlp_layout.proofs.Fitting.{Small, flag_fits, times_fit}
-use Rattle.mlp_major.specs.MajorSync.{kind_of, kind_bit, extension, fields, checked_sync, judged_sync, major_sync, rules, signed}
+use Rattle.mlp_major.specs.MajorSync.{kind_of, kind_bit, extension, fields, checked_sync, judged_sync, major_sync, rules, with_signature}
 use Rattle.mlp_major.proofs.SyncWriting.{SyncFits, sync_fits, fits_under, sync_has_fields}
 
 -- ---- the extension
@@ -47,16 +47,16 @@ unfolding kind_bit seen number_of
 kind_fits kind.Fba = (omega arith, refl)
 kind_fits kind.Fbb = (omega arith, refl)
 
-fields_fit : (m : MajorSync) → SyncFits m → m.meaning < 2 ^ 64 → fields.Fits (signed m)
+fields_fit : (m : MajorSync) → SyncFits m → m.meaning < 2 ^ 64 → fields.Fits (with_signature m)
 unfolding fields fixed ruled part number_of made
 fields_fit m f meaning =
     (omega arith, (kind_fits (kind_of m.format), (f.format, (omega arith, (f.flags, (f.reserved, (flag_fits m.variable, (f.peak, (f.substreams, (f.carried, (f.extended, (f.info, (meaning, (f.extension, refl))))))))))))))
 
-checked_fits : (m : MajorSync) → fields.Fits (signed m) → checked_sync.Fits (signed m)
+checked_fits : (m : MajorSync) → fields.Fits (with_signature m) → checked_sync.Fits (with_signature m)
 unfolding checked_sync whole checked part fixed ruled number_of made
-checked_fits m fits = (fits, (rem_from-smaller modulus16 0 (fields.spelling (signed m)) (omega arith) (omega arith), refl))
+checked_fits m fits = (fits, (rem_from-smaller modulus16 0 (fields.spelling (with_signature m)) (omega arith) (omega arith), refl))
 
-judged_fits : (m : MajorSync) → checked_sync.Fits (signed m) → (judged_sync None).Fits m
+judged_fits : (m : MajorSync) → checked_sync.Fits (with_signature m) → (judged_sync None).Fits m
 unfolding judged_sync seen ruled
 judged_fits m fits = fits_under (rules None) _ m (fits, refl)
 

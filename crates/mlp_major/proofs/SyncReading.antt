@@ -140,7 +140,8 @@ sync_whole first all p m q aligned le h =
     omega (arith, f.1, (major_takes first).takes m f.0.fits)
 
 -- the first bits of the bytes from a place on
-pub bits_at : (w n : ℕ) (bytes : List ℕ) (r : Cursor) (at : ℕ) → r.all ≡ bits_of bytes → r.place % 8 ≡ 0 → at ≡ r.place → n ≡ number (take w (bits_of (take (length bytes - at / 8) (drop (at / 8) bytes)))) → n ≡ number (take w (drop r.place r.all))
+pub bits_at : (w n : ℕ) (bytes : List ℕ) (r : Cursor) (at : ℕ) → r.all ≡ bits_of bytes → r.place % 8 ≡ 0 → at ≡ r.place
+    → n ≡ number (take w (bits_of (take (length bytes - at / 8) (drop (at / 8) bytes)))) → n ≡ number (take w (drop r.place r.all))
 bits_at w n bytes r at same aligned is e =
     let p-is : 8 * (at / 8) ≡ r.place = omega arith in
     let all : take (length bytes - at / 8) (drop (at / 8) bytes) ≡ drop (at / 8) bytes = take_all (length bytes - at / 8) (drop (at / 8) bytes) (omega (arith, length-drop (at / 8) bytes)) in

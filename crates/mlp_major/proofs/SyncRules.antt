@@ -14,7 +14,7 @@ use Rattle.mlp_bits.proofs.BitLists.{length-bits}
 use Rattle.mlp_bits.proofs.ReadBack.{number-of}
 use Rattle.mlp_layout.specs.Layout.{number_of, seen, ruled, opening, whole, part, made, item}
 use Rattle.mlp_layout.specs.Combined.{flag, fixed, checked, chosen, times}
-use Rattle.mlp_major.specs.MajorSync.{fbb, fba, format_info, kind_of, kind_bit, kind_bit_of, extension, is_long, fields, checked_sync, judged_sync, major_sync, rules, signed, sync, rate_of, is_rate, in_fba, in_fbb, most_substreams, is_unchanged, is_same_kind, IsUsable, Alike, HasKindOf, KeepsRules, smaller, NarrowsWell}
+use Rattle.mlp_major.specs.MajorSync.{fbb, fba, format_info, kind_of, kind_bit, kind_bit_of, extension, is_long, fields, checked_sync, judged_sync, major_sync, rules, with_signature, sync, rate_of, is_rate, in_fba, in_fbb, most_substreams, is_unchanged, is_same_kind, IsUsable, Alike, HasKindOf, KeepsRules, smaller, NarrowsWell}
 use Rattle.mlp_major.proofs.SyncWriting.{sync_fits, sync_text, checked_text, fields_text, sync_has_fields, piece_2, piece_3, piece_4, piece_5}
 use Rattle.mlp_major.proofs.SyncFitting.{fit_of, fit_by}
 use Rattle.mlp_major.proofs.RuleLaws.{Met, met, meets_under, first_none, none_first, both}
@@ -39,7 +39,7 @@ extension_meets true [] fits = absurd fits
 extension_meets true (b ∷ bs) fits = (tt, times_meets (1 + 2 * (b / 16)) bs fits.1)
 extension_meets false bytes fits = tt
 
-fields_meet : (m : MajorSync) → fields.Fits (signed m) → fields.Meets (signed m)
+fields_meet : (m : MajorSync) → fields.Fits (with_signature m) → fields.Meets (with_signature m)
 unfolding fields fixed ruled part number_of made kind_bit seen flag
 fields_meet m fits =
     let e = extension_meets (is_long (kind_of m.format) m.meaning) m.extension.items (sync_fits m fits).extension in
@@ -48,11 +48,11 @@ fields_meet m fits =
 itself : (n : ℕ) → cond {A = Option ℕ} (eqb n n) None (Some 0) ≡ None
 itself n = let same : eqb n n ≡ true = eq-eqb n n refl in rw same refl
 
-checked_meets : (m : MajorSync) → fields.Fits (signed m) → checked_sync.Meets (signed m)
+checked_meets : (m : MajorSync) → fields.Fits (with_signature m) → checked_sync.Meets (with_signature m)
 unfolding checked_sync whole checked part fixed ruled number_of made
-checked_meets m fits = (fields_meet m fits, ((tt, itself (rem modulus16 (fields.spelling (signed m)))), tt))
+checked_meets m fits = (fields_meet m fits, ((tt, itself (rem modulus16 (fields.spelling (with_signature m)))), tt))
 
-signed_meets : (m : MajorSync) → fields.Fits (signed m) → (first : Option MajorSync) → Met (rules first) m → (judged_sync first).Meets m
+signed_meets : (m : MajorSync) → fields.Fits (with_signature m) → (first : Option MajorSync) → Met (rules first) m → (judged_sync first).Meets m
 unfolding judged_sync seen ruled
 signed_meets m fits first rules-met = meets_under (rules first) _ m (checked_meets m fits, refl) rules-met
 
@@ -68,11 +68,11 @@ bit_small kind.Fba = omega arith
 bit_small kind.Fbb = omega arith
 
 -- its first word
-first_word : (first : Option MajorSync) (m : MajorSync) → fields.Fits (signed m) → number (take 32 ((major_sync first).spelling m)) ≡ 2 * sync + kind_bit_of (kind_of m.format)
+first_word : (first : Option MajorSync) (m : MajorSync) → fields.Fits (with_signature m) → number (take 32 ((major_sync first).spelling m)) ≡ 2 * sync + kind_bit_of (kind_of m.format)
 first_word first m fits =
     let k = kind_of m.format in
     let w = 2 * sync + kind_bit_of k in
-    let rest = piece_2 m ++ (piece_3 m ++ (piece_4 m ++ (piece_5 m ++ bits 16 (rem modulus16 (fields.spelling (signed m)))))) in
+    let rest = piece_2 m ++ (piece_3 m ++ (piece_4 m ++ (piece_5 m ++ bits 16 (rem modulus16 (fields.spelling (with_signature m)))))) in
     let text : (major_sync first).spelling m ≡ (bits 31 sync ++ bits 1 (kind_bit_of k)) ++ rest =
     rw (sync_text first m, checked_text m, fields_text m fits) (simp (append_assoc, append-nil)) in
     ap (λ (t : List Bool). number (take 32 t)) (text ∙ ap (λ (t : List Bool). t ++ rest) (word_bits k)) ∙ ap number (take_at (bits 32 w) rest 32 (length-bits 32 w)) ∙ number-of 32 w (omega (arith, bit_small k))
@@ -151,7 +151,7 @@ keeps_first first m k =
 
 -- ---- an extraction
 
-meaning_fits : (m : MajorSync) → fields.Fits (signed m) → m.meaning < 2 ^ 64
+meaning_fits : (m : MajorSync) → fields.Fits (with_signature m) → m.meaning < 2 ^ 64
 unfolding fields fixed ruled part number_of made
 meaning_fits m fits = fits.1.1.1.1.1.1.1.1.1.1.1.1.0
 

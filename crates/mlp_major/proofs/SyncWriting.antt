@@ -12,7 +12,7 @@ use Rattle.mlp_layout.specs.Combined.{under, flag, fixed, checked, chosen, times
 use Rattle.mlp_layout.proofs.CombinedLaws.{times_count}
 use Rattle.mlp_layout.specs.Writing.{field_bits}
 use Rattle.mlp_major.proofs.MajorLaws.{fields_take, major_takes}
-use Rattle.mlp_major.specs.MajorSync.{format_info, kind_of, kind_bit, kind_bit_of, is_long, extension, fields, checked_sync, judged_sync, major_sync, rules, signed, sync, signature}
+use Rattle.mlp_major.specs.MajorSync.{format_info, kind_of, kind_bit, kind_bit_of, is_long, extension, fields, checked_sync, judged_sync, major_sync, rules, with_signature, sync, signature}
 
 -- ---- the extension
 
@@ -41,7 +41,7 @@ pub record SyncFits (m : MajorSync) : Type 0 where
   pub info : m.info < 256
   pub extension : (extension (is_long (kind_of m.format) m.meaning)).Fits m.extension.items
 
-pub sync_fits : (m : MajorSync) → fields.Fits (signed m) → SyncFits m
+pub sync_fits : (m : MajorSync) → fields.Fits (with_signature m) → SyncFits m
 unfolding fields fixed ruled part number_of made
 sync_fits m fits =
     let f = fits.1.1 in
@@ -78,13 +78,13 @@ piece_4 m = (number_of 64).spelling m.meaning
 abbrev pub piece_5 : MajorSync → List Bool
 piece_5 m = bits_of m.extension.items
 
-pub fields_text : (m : MajorSync) → fields.Fits (signed m) → fields.spelling (signed m) ≡ piece_1 m ++ (piece_2 m ++ (piece_3 m ++ (piece_4 m ++ piece_5 m)))
+pub fields_text : (m : MajorSync) → fields.Fits (with_signature m) → fields.spelling (with_signature m) ≡ piece_1 m ++ (piece_2 m ++ (piece_3 m ++ (piece_4 m ++ piece_5 m)))
 unfolding fields fixed ruled part number_of made kind_bit seen flag
 fields_text m fits = rw (extension_text (is_long (kind_of m.format) m.meaning) m.extension.items (sync_fits m fits).extension) (simp (append_assoc, append-nil))
 
 -- ---- the check, and the rules
 
-pub checked_text : (m : MajorSync) → checked_sync.spelling (signed m) ≡ fields.spelling (signed m) ++ bits 16 (rem modulus16 (fields.spelling (signed m)))
+pub checked_text : (m : MajorSync) → checked_sync.spelling (with_signature m) ≡ fields.spelling (with_signature m) ++ bits 16 (rem modulus16 (fields.spelling (with_signature m)))
 unfolding checked_sync whole checked part fixed ruled number_of made
 checked_text m = simp append-nil
 
@@ -122,11 +122,11 @@ unfolding major_sync opening judged_sync
 fits_any a b m fits = fits_under (rules b) _ m (under_fits (rules a) _ m fits)
 
 -- a sync is spelled with its signature and check
-pub sync_text : (first : Option MajorSync) (m : MajorSync) → (major_sync first).spelling m ≡ checked_sync.spelling (signed m)
+pub sync_text : (first : Option MajorSync) (m : MajorSync) → (major_sync first).spelling m ≡ checked_sync.spelling (with_signature m)
 unfolding major_sync opening judged_sync seen ruled
 sync_text first m = under_text (rules first) _ m
 
-pub sync_has_fields : (first : Option MajorSync) (m : MajorSync) → (major_sync first).Fits m → fields.Fits (signed m)
+pub sync_has_fields : (first : Option MajorSync) (m : MajorSync) → (major_sync first).Fits m → fields.Fits (with_signature m)
 unfolding major_sync opening judged_sync seen ruled checked_sync whole checked part
 sync_has_fields first m fits = (under_fits (rules first) _ m fits).0.0
 
@@ -134,16 +134,16 @@ sync_has_fields first m fits = (under_fits (rules first) _ m fits).0.0
 pub sync_length : (first : Option MajorSync) (m : MajorSync) → (major_sync first).Fits m → length ((major_sync first).spelling m) ≡ 8 * (28 + length m.extension.items)
 sync_length first m fits = (major_takes first).takes m fits
 
-pub fields_whole : (m : MajorSync) → fields.Fits (signed m) → length (fields.spelling (signed m)) % 8 ≡ 0
-fields_whole m fits = omega (arith, fields_take.takes (signed m) fits)
+pub fields_whole : (m : MajorSync) → fields.Fits (with_signature m) → length (fields.spelling (with_signature m)) % 8 ≡ 0
+fields_whole m fits = omega (arith, fields_take.takes (with_signature m) fits)
 
 -- it begins with the sync word
 pub sync_begins : (first : Option MajorSync) (m : MajorSync) (rest : List Bool) → (major_sync first).Fits m → number (take 31 ((major_sync first).spelling m ++ rest)) ≡ sync
 sync_begins first m rest fits =
     let later = (bits 1 (kind_bit_of (kind_of m.format)) ++ []) ++ (piece_2 m ++ (piece_3 m ++ (piece_4 m ++ piece_5 m))) in
-    let text : (major_sync first).spelling m ++ rest ≡ bits 31 sync ++ ((later ++ bits 16 (rem modulus16 (fields.spelling (signed m)))) ++ rest) =
+    let text : (major_sync first).spelling m ++ rest ≡ bits 31 sync ++ ((later ++ bits 16 (rem modulus16 (fields.spelling (with_signature m)))) ++ rest) =
     rw (sync_text first m, checked_text m, fields_text m (sync_has_fields first m fits)) (simp append_assoc) in
-    ap (λ (t : List Bool). number (take 31 t)) text ∙ ap number (take_at (bits 31 sync) ((later ++ bits 16 (rem modulus16 (fields.spelling (signed m)))) ++ rest) 31 (length-bits 31 sync)) ∙ number-of 31 sync (omega arith)
+    ap (λ (t : List Bool). number (take 31 t)) text ∙ ap number (take_at (bits 31 sync) ((later ++ bits 16 (rem modulus16 (fields.spelling (with_signature m)))) ++ rest) 31 (length-bits 31 sync)) ∙ number-of 31 sync (omega arith)
 
 -- an extension has an even number of bytes
 pub extension_even : (long : Bool) (bytes : List ℕ) → (extension long).Fits bytes → length bytes % 2 ≡ 0

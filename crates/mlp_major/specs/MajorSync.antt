@@ -200,8 +200,8 @@ abbrev pub smaller : ℕ → MajorSync → MajorSync
 smaller k m = record m { substreams = k + 1; info = m.info % 2 ^ 7 }
 
 -- a major sync with its signature
-abbrev pub signed : MajorSync → SignedSync
-signed m = record { signature = signature; major = m }
+abbrev pub with_signature : MajorSync → SignedSync
+with_signature m = record { signature = signature; major = m }
 
 -- the fields and the check over them; where they aren't all there the check fails too
 unfoldable pub checked_sync : Layout SignedSync
@@ -211,7 +211,7 @@ checked_sync = whole rule.MajorCrc (checked 16 (rem modulus16) rule.MajorCrc fie
 unfoldable pub judged_sync : Option MajorSync → Layout MajorSync
 judged_sync first =
     under (rules first)
-    (seen (λ s. s.major) (λ m. Some (signed m))
+    (seen (λ s. s.major) (λ m. Some (with_signature m))
     (ruled (must_at 64 rule.Signature (λ s. s.signature == signature)) checked_sync))
 
 -- a major sync, its kind being tried before all else; first is the stream's first sync, if this isn't it

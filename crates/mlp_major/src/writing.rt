@@ -4,7 +4,7 @@ ghost use Rattle.mlp_bits.specs.Bits.{bits_of};
 ghost use Rattle.mlp_layout.specs.Layout.{number_of};
 ghost use Rattle.mlp_layout.specs.Combined.{times};
 ghost use Rattle.mlp_layout.specs.Writing.{Writes};
-ghost use Rattle.mlp_major.specs.MajorSync.{fbb, fba, format_info, kind_of, kind_bit_of, fields, checked_sync, signed, major_sync};
+ghost use Rattle.mlp_major.specs.MajorSync.{fbb, fba, format_info, kind_of, kind_bit_of, fields, checked_sync, with_signature, major_sync};
 
 use crate::format::SYNC;
 use mlp_bits::{BitWriter, Full, check16};
@@ -81,8 +81,8 @@ fn write_bytes(bytes: &[u8], w: &mut BitWriter) -> Result<(), Full>
 
 /// All fields before the check.
 fn write_fields(major: &MajorSync, w: &mut BitWriter) -> Result<(), Full>
-    requires { fields.Fits (signed major.now) }
-    ensures { Writes w.old w.new result (fields.spelling (signed major.now)) }
+    requires { fields.Fits (with_signature major.now) }
+    ensures { Writes w.old w.new result (fields.spelling (with_signature major.now)) }
 {
     put_all(&[(SYNC, 31), (kind_bit(&major.format), 1)], w)?;
     write_format(&major.format, w)?;
@@ -107,8 +107,8 @@ fn write_fields(major: &MajorSync, w: &mut BitWriter) -> Result<(), Full>
 /// The fields, and the check over them.
 fn write_checked(major: &MajorSync, w: &mut BitWriter) -> Result<(), Full>
     requires empty { w.old ≡ [] }
-    requires fits { fields.Fits (signed major.now) }
-    ensures { Writes w.old w.new result (checked_sync.spelling (signed major.now)) }
+    requires fits { fields.Fits (with_signature major.now) }
+    ensures { Writes w.old w.new result (checked_sync.spelling (with_signature major.now)) }
 {
     write_fields(major, w)?;
     let check = check16(w.bytes());

@@ -2,7 +2,8 @@
 //! they were read; and a directory with its segment.
 use mlp_syntax::{Broken, DirEntry, Field, Kind, MajorSync, Outer, UnitBytes, UnitTooLong};
 use mlp_unit::{
-    frame, is_writable, read_directory, read_outer, segment_bytes, segment_range, write_unit,
+    frame, is_writable, next_outer, read_directory, read_outer, segment_bytes, segment_range,
+    write_unit,
 };
 use std::process::Abort;
 
@@ -22,15 +23,15 @@ const FIRST_MLP: [u8; 58] = [
 
 /// The outer part of the unit at the front of these bytes.
 fn outer(rt: &impl Abort, next: &[u8], first: Option<&MajorSync>) -> Result<Outer, Broken> {
-    let length = frame(next)?;
-    assert!(rt; length <= next.len());
-    let unit = &next[..length];
-    assert!(rt; frame(unit) == Ok(unit.len()));
     match first {
-        None => read_outer(unit, None),
+        None => {
+            let (_, outer) = next_outer(next, None)?;
+            Ok(outer)
+        }
         Some(first) => {
             assert!(rt; first.substreams <= 4);
-            read_outer(unit, Some(first))
+            let (_, outer) = next_outer(next, Some(first))?;
+            Ok(outer)
         }
     }
 }

@@ -47,7 +47,8 @@ laid first all u f =
     let at : 0 + length (head.spelling u.head) + length ((present (is_some u.major) (major_sync first)).spelling u.major) ≡ 32 + 8 * major_size u.major = omega (arith, h-len, m-len) in
     record {
       head = subst (λ (k : ℕ). take k all ≡ head.spelling u.head) h-len one.text_is;
-      directory = rw count (subst (λ (k : ℕ). take k (drop (32 + 8 * major_size u.major) all) ≡ (directory n).spelling u.entries) d-len (subst (λ (k : ℕ). take (length ((directory n).spelling u.entries)) (drop k all) ≡ (directory n).spelling u.entries) at four.text_is));
+      directory = rw count (subst (λ (k : ℕ). take k (drop (32 + 8 * major_size u.major) all) ≡ (directory n).spelling u.entries) d-len
+          (subst (λ (k : ℕ). take (length ((directory n).spelling u.entries)) (drop k all) ≡ (directory n).spelling u.entries) at four.text_is));
     }
 
 -- ---- what the checks look at
@@ -68,7 +69,8 @@ seen_parts first bytes o small e body =
     let inside : o.body ≤ length bytes = omega (arith, body, len, f.1) in
     let h-bits : bits_of (take 4 bytes) ≡ head.spelling o.head = sym (bits_of-middle 0 4 bytes (omega (arith, inside, body))) ∙ l.head in
     let place : 8 * start ≡ 32 + 8 * major_size o.major = omega arith in
-    let d-bits : bits_of (take (o.body - start) (drop start bytes)) ≡ (directory (length o.entries.items)).spelling o.entries.items = sym (bits_of-middle start (o.body - start) bytes (omega (arith, inside, body))) ∙ rw (place, size) l.directory in
+    let d-bits : bits_of (take (o.body - start) (drop start bytes)) ≡ (directory (length o.entries.items)).spelling o.entries.items =
+    sym (bits_of-middle start (o.body - start) bytes (omega (arith, inside, body))) ∙ rw (place, size) l.directory in
     record {
       inside = inside;
       start = omega (arith, body);
@@ -96,7 +98,8 @@ module _ (bytes : List ℕ) (o : Outer) (start : ℕ) (start-is : start ≡ 4 + 
   place-is : 8 * start ≡ directory_place (unit_with bytes o)
   place-is = omega (arith, start-is)
 
-  pub extra_is : (first : Option MajorSync) (k : Kind) (x : Option ℕ) → k ≡ stream_kind (in_force first o.major) → x ≡ first_failing (may_stand k) (8 * start) es → x ≡ first_failing (may_stand (stream_kind (in_force first o.major))) (directory_place (unit_with bytes o)) o.entries.items
+  pub extra_is : (first : Option MajorSync) (k : Kind) (x : Option ℕ) → k ≡ stream_kind (in_force first o.major) → x ≡ first_failing (may_stand k) (8 * start) es
+      → x ≡ first_failing (may_stand (stream_kind (in_force first o.major))) (directory_place (unit_with bytes o)) o.entries.items
   extra_is first k x k-is e = e ∙ rw (k-is, es-is, place-is) refl
 
   pub flag_is : (there : Bool) (x : Option ℕ) → there ≡ is_some o.major → x ≡ first_failing (is_restart_flag there) (8 * start) es → x ≡ first_failing (is_restart_flag (is_some o.major)) (directory_place (unit_with bytes o)) o.entries.items

@@ -27,19 +27,22 @@ use Rattle.mlp_unit.proofs.Reread.{parts_of, writable, small_size}
 
 -- ---- what can be written as the next unit
 
-written_allowed : (first : Option MajorSync) (timing : ℕ) (major : Option MajorSync) (entries : List DirEntry) (body : List ℕ) → Writable major entries body → MayFollow first major entries → timing < 65536 → Small body → unit_size major entries body ≤ 8190
+written_allowed : (first : Option MajorSync) (timing : ℕ) (major : Option MajorSync) (entries : List DirEntry) (body : List ℕ)
+    → Writable major entries body → MayFollow first major entries → timing < 65536 → Small body → unit_size major entries body ≤ 8190
     → Allowed (access_unit first) (written_unit timing major entries body)
 written_allowed first timing major entries body w f clock small size = record {
   fits = unit_fits first timing major entries body w f.count clock small size;
   meets = unit_meets first timing major entries body w f size;
 }
 
-pub next_allowed : (first : Option MajorSync) (timing : ℕ) (major : Option MajorSync) (entries : List DirEntry) (body : List ℕ) → MayBeNext first timing major entries body → Allowed (access_unit first) (written_unit timing major entries body)
+pub next_allowed : (first : Option MajorSync) (timing : ℕ) (major : Option MajorSync) (entries : List DirEntry) (body : List ℕ)
+    → MayBeNext first timing major entries body → Allowed (access_unit first) (written_unit timing major entries body)
 next_allowed first timing major entries body n = written_allowed first timing major entries body n.writable n.follows n.clock (small_bytes body n.bytes) n.small
 
 -- ---- another timing and body
 
-pub rewritten_meets : (first : Option MajorSync) (timing : ℕ) (u : AccessUnit) (body : List ℕ) → FirstUsable first → Allowed (access_unit first) u → timing < 65536 → AreBytes body → length body ≡ length u.body → RewrittenMeets first timing u body
+pub rewritten_meets : (first : Option MajorSync) (timing : ℕ) (u : AccessUnit) (body : List ℕ) → FirstUsable first → Allowed (access_unit first) u
+    → timing < 65536 → AreBytes body → length body ≡ length u.body → RewrittenMeets first timing u body
 rewritten_meets first timing u body usable a clock bytes same =
     let p = parts_of first u (λ none. usable) a.fits a.meets in
     let w = writable first u (λ none. usable) a.fits a.meets in
@@ -77,7 +80,8 @@ failing_fewer holds p zero es e = refl
 failing_fewer holds p (suc n) [] e = refl
 failing_fewer holds p (suc n) (x ∷ es) e = by_case (λ k. failing_fewer holds (p + 8 * entry_size x) n es k) (holds x) refl e
   where
-    by_case : (first_failing holds (p + 8 * entry_size x) es ≡ None → first_failing holds (p + 8 * entry_size x) (take n es) ≡ None) → (b : Bool) → holds x ≡ b → cond {A = Option ℕ} b (first_failing holds (p + 8 * entry_size x) es) (Some p) ≡ None
+    by_case : (first_failing holds (p + 8 * entry_size x) es ≡ None → first_failing holds (p + 8 * entry_size x) (take n es) ≡ None)
+        → (b : Bool) → holds x ≡ b → cond {A = Option ℕ} b (first_failing holds (p + 8 * entry_size x) es) (Some p) ≡ None
         → cond {A = Option ℕ} (holds x) (first_failing holds (p + 8 * entry_size x) (take n es)) (Some p) ≡ None
     by_case later true is k = rw is (later k)
     by_case later false is k = absurd cc
@@ -102,7 +106,8 @@ ends_fewer before last p (e ∷ es) (suc j) none lt =
     rw (s.0.0, rises) (ends_fewer e.end last (p + 8 * entry_size e) es j s.1 (omega arith))
 
 -- whether a directory begins as a major sync does lies in its first entry
-unlike_fewer : (n : ℕ) (es : List DirEntry) → 0 < length es → (directory (length es)).Fits es → next_is 31 sync ((directory (length es)).spelling es) ≡ false → next_is 31 sync ((directory (length (take (suc n) es))).spelling (take (suc n) es)) ≡ false
+unlike_fewer : (n : ℕ) (es : List DirEntry) → 0 < length es → (directory (length es)).Fits es → next_is 31 sync ((directory (length es)).spelling es) ≡ false
+    → next_is 31 sync ((directory (length (take (suc n) es))).spelling (take (suc n) es)) ≡ false
 unlike_fewer n [] some fits unlike = absurd (omega arith)
 unlike_fewer n (e ∷ es) some fits unlike = by_extra e.extra refl
   where
@@ -206,5 +211,6 @@ module _ (k : ℕ) (first : Option MajorSync) (u : AccessUnit) (usable : FirstUs
       record {
         writable = fewer_writable;
         small = fewer_small;
-        allowed = written_allowed (option_map (smaller k) first) u.head.timing (option_map (smaller k) u.major) (take (k + 1) u.entries) (take (2 * end_at u.entries k) u.body) fewer_writable fewer_follows p.timing (small-take (2 * end_at u.entries k) u.body p.small) fewer_small;
+        allowed = written_allowed (option_map (smaller k) first) u.head.timing (option_map (smaller k) u.major) (take (k + 1) u.entries)
+            (take (2 * end_at u.entries k) u.body) fewer_writable fewer_follows p.timing (small-take (2 * end_at u.entries k) u.body p.small) fewer_small;
       }

@@ -82,6 +82,18 @@ module _ (next : List ℕ) (n : ℕ) (f : Frame next n) where
       let s = unit_settled first (bits_of (take n next)) first_bits (λ h e. omega (arith, ap (λ (g : UnitHead). g.words) (same_head h e), f.head_is.2, f.there, length-bits_of (take n next), length-take n next)) in
       ap (λ (all : List Bool). (access_unit first).read all 0) (sym (bits_split n next)) ∙ s.same (bits_of (drop n next))
 
+pub frame_length : (next : List ℕ) (n : ℕ) → frame_of next ≡ Ok n → length (take n next) ≡ n
+frame_length next n e = omega (arith, length-take n next, (is_frame next n e).there)
+
+pub frame_itself : (next : List ℕ) (n : ℕ) → frame_of next ≡ Ok n → frame_of (take n next) ≡ Ok (length (take n next))
+frame_itself next n e = frame_alone next n (is_frame next n e) ∙ ap bytes_ok (sym (frame_length next n e))
+
+-- with the same head
+pub head_alone : (next : List ℕ) (n : ℕ) (h : UnitHead) → frame_of next ≡ Ok n → head.read (bits_of next) 0 ≡ Ok (h, 32) → head.read (bits_of (take n next)) 0 ≡ Ok (h, 32)
+head_alone next n h e k =
+    let first = first_bits next n (is_frame next n e) in
+    sym ((head_settled (bits_of (take n next)) first).same (bits_of (drop n next))) ∙ ap (λ (all : List Bool). head.read all 0) (bits_split n next) ∙ k
+
 -- ---- no frame
 
 too_long : (first : Option MajorSync) (all : List Bool) (h : UnitHead) → head.read all 0 ≡ Ok (h, 32) → length all < 16 * h.words → (parts first).read all 0 ≡ Err (broken rule.UnitLength 4)
@@ -98,7 +110,8 @@ no_frame first next e k = under_err (bits_of next) 0 (rules first) (parts first)
     err_is : (d e : Broken) → (let r : Result ℕ Broken = Err d in r) ≡ Err e → d ≡ e
     err_is d e k = cc
 
-    by_length : (h : UnitHead) (q : ℕ) → head.read (bits_of next) 0 ≡ Ok (h, q) → (b : Bool) → leb (2 * h.words) (length next) ≡ b → cond {A = Result ℕ Broken} b (Ok (2 * h.words)) (Err (broken rule.UnitLength 4)) ≡ Err e → (parts first).read (bits_of next) 0 ≡ Err e
+    by_length : (h : UnitHead) (q : ℕ) → head.read (bits_of next) 0 ≡ Ok (h, q) → (b : Bool) → leb (2 * h.words) (length next) ≡ b
+        → cond {A = Result ℕ Broken} b (Ok (2 * h.words)) (Err (broken rule.UnitLength 4)) ≡ Err e → (parts first).read (bits_of next) 0 ≡ Err e
     by_length h q is true le k = absurd cc
     by_length h q is false le k =
         let facts = head_facts (bits_of next) h q is in

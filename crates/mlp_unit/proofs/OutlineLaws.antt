@@ -15,4 +15,6 @@ outline_is = record {
 }
 
 pub one_outline : (bytes : List ℕ) → HasOneOutline bytes
-one_outline bytes = has_one_end outline outline_is None (bits_of bytes)
+one_outline bytes =
+    let h = has_one_end outline outline_is None (bits_of bytes) in
+    record { some = h.some; not_both = h.not_both; one_list = h.one_list; one_fault = h.one_fault }

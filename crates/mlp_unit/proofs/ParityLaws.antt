@@ -1,5 +1,5 @@
 -- The sum of half bytes, over bits and over bytes.
-use Rattle.std.proofs.Common.{◌≡◌, ℕ, suc, ◌+◌, ◌/◌, ◌%◌, ◌^◌, ◌<◌, Bool, List, [], ◌∷◌, ◌++◌, length, get_or, take, drop, refl, sym, ap, ◌∙◌, append_assoc, arith, inl, inr}
+use Rattle.std.proofs.Common.{◌≡◌, ℕ, suc, ◌+◌, ◌/◌, ◌%◌, ◌^◌, ◌<◌, Bool, List, [], ◌∷◌, ◌++◌, length, take, drop, refl, sym, ap, ◌∙◌, append_assoc, arith, inl, inr}
 use Rattle.std.proofs.lemmas.Bool.{cases_lt}
 use Rattle.std.proofs.lemmas.List.{get_or-drop, get_or-take, get_or_past, length-take, append-nil}
 use Rattle.std.proofs.lemmas.List.Elements.{All-get_or}
@@ -42,7 +42,14 @@ unfolding bits_of
 half_bytes s [] rest small = refl
 half_bytes s (b ∷ bs) rest small =
     let later = half_bytes (bit_xor (bit_xor s (b / 16)) (b % 16)) bs rest (λ i. small (suc i)) in
-    rw (bits_of-cons b bs, append_assoc (bits 8 b) (bits_of bs) rest, one_byte b (bits_of bs ++ rest) (small 0), ← xor_assoc s (b / 16) (bit_xor (b % 16) (half_byte_sum (bits_of bs ++ rest))), ← xor_assoc (bit_xor s (b / 16)) (b % 16) (half_byte_sum (bits_of bs ++ rest))) later
+    rw (
+      bits_of-cons b bs,
+      append_assoc (bits 8 b) (bits_of bs) rest,
+      one_byte b (bits_of bs ++ rest) (small 0),
+      ← xor_assoc s (b / 16)
+          (bit_xor (b % 16) (half_byte_sum (bits_of bs ++ rest))),
+      ← xor_assoc (bit_xor s (b / 16)) (b % 16) (half_byte_sum (bits_of bs ++ rest)),
+    ) later
 
 zero_left : (n : ℕ) → bit_xor 0 n ≡ n
 zero_left n = grind arith
@@ -52,7 +59,8 @@ unfolding half_byte_sum
 parity_is xs ys small little =
     let one = half_bytes 0 xs (bits_of ys) small in
     let two = half_bytes (fold bit_xor 0 (nibbles xs)) ys [] little in
-    sym (zero_left (half_byte_sum (bits_of xs ++ bits_of ys))) ∙ one ∙ ap (λ (t : List Bool). bit_xor (fold bit_xor 0 (nibbles xs)) (half_byte_sum t)) (sym (append-nil (bits_of ys))) ∙ two ∙ xor_zero_r (fold bit_xor (fold bit_xor 0 (nibbles xs)) (nibbles ys)) ∙ sym (nibbles-append 0 xs ys)
+    sym (zero_left (half_byte_sum (bits_of xs ++ bits_of ys))) ∙ one ∙ ap (λ (t : List Bool). bit_xor (fold bit_xor 0 (nibbles xs)) (half_byte_sum t)) (sym (append-nil (bits_of ys)))
+    ∙ two ∙ xor_zero_r (fold bit_xor (fold bit_xor 0 (nibbles xs)) (nibbles ys)) ∙ sym (nibbles-append 0 xs ys)
 
 pub bytes_parity : (bytes : List ℕ) → AreBytes bytes → half_byte_sum (bits_of bytes) ≡ nibble_parity_of bytes
 unfolding bits_of

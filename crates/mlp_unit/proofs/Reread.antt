@@ -49,10 +49,6 @@ major_fits_of true first (Some m) fits = fits_any first None m fits.0
 major_fits_of false first None fits = tt
 major_fits_of false first (Some m) fits = absurd cc
 
-major_meets_of : (first : Option MajorSync) (m : MajorSync) → (present true (major_sync first)).Meets (Some m) → (major_sync first).Meets m
-unfolding present chosen seen
-major_meets_of first m meets = meets
-
 -- what is known of the number of entries
 pub record Count (major : Option MajorSync) (n : ℕ) : Type 0 where
   pub some : 0 < n
@@ -97,7 +93,8 @@ no_text first None e = refl
 no_text first (Some m) e = absurd cc
 
 -- an entry that a unit without a sync begins with doesn't look like one
-not_like : (es : List DirEntry) (more : List Bool) → 0 < length es → (directory (length es)).Fits es → (4 ≤ directory_size es → next_is 31 sync ((directory (length es)).spelling es ++ more) ≡ false) → next_is 31 sync ((directory (length es)).spelling es) ≡ false
+not_like : (es : List DirEntry) (more : List Bool) → 0 < length es → (directory (length es)).Fits es
+    → (4 ≤ directory_size es → next_is 31 sync ((directory (length es)).spelling es ++ more) ≡ false) → next_is 31 sync ((directory (length es)).spelling es) ≡ false
 not_like [] more some fits mark = absurd (omega arith)
 not_like (e ∷ es) more some fits mark = by_extra e.extra refl
   where
@@ -162,7 +159,16 @@ module _ (first : Option MajorSync) (u : AccessUnit) (usable : is_some u.major �
         count = subst (Count u.major) (sym count) (count_of first u.major usable keeps meets.1.1.0);
         marks = fits.1.0.1;
         behind = (more, ap (λ (k : ℕ). (directory k).spelling u.entries ++ more) (sym count));
-        size = omega (arith, all, front, fits.1.1, two-words, ap (λ (t : List Bool). length t) (under_text (rules first) (parts first) u), length-append (head.spelling u.head) ((present (is_some u.major) (major_sync first)).spelling u.major ++ (behind_sync first u.head u.major).spelling u));
+        size = omega (
+          arith,
+          all,
+          front,
+          fits.1.1,
+          two-words,
+          ap (λ (t : List Bool). length t) (under_text (rules first) (parts first) u),
+          length-append
+              (head.spelling u.head) ((present (is_some u.major) (major_sync first)).spelling u.major ++ (behind_sync first u.head u.major).spelling u),
+        );
         parity = eqb-true _ _ (rule_holds (eqb (parity_of u.head u.entries) 15) 0 each.1.1.0);
         ends = ends_any 0 (length u.body / 2) (directory_place u) 0 u.entries (no_further 4 _ each.1.1.1.1.0);
       }
@@ -177,7 +183,8 @@ module _ (first : Option MajorSync) (u : AccessUnit) (usable : is_some u.major �
   unlike none =
       let p = parts_of in
       let d = (directory (length u.entries)).spelling u.entries in
-      let text : (present (is_some u.major) (major_sync first)).spelling u.major ++ (behind_sync first u.head u.major).spelling u ≡ d ++ p.behind.0 = ap (λ (t : List Bool). t ++ (behind_sync first u.head u.major).spelling u) (no_text first u.major none) ∙ p.behind.1 in
+      let text : (present (is_some u.major) (major_sync first)).spelling u.major ++ (behind_sync first u.head u.major).spelling u ≡ d ++ p.behind.0 =
+      ap (λ (t : List Bool). t ++ (behind_sync first u.head u.major).spelling u) (no_text first u.major none) ∙ p.behind.1 in
       let marks = p.marks ∙ ap (λ (t : List Bool). leb 4 u.head.words && next_is 31 sync t) text in
       not_like u.entries p.behind.0 p.count.some p.entries_fit (λ big.
       let room : leb 4 u.head.words ≡ true = le-leb _ _ (omega (arith, big, p.size)) in

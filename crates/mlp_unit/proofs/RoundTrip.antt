@@ -22,7 +22,8 @@ pub read_back : (first : Option MajorSync) (u : AccessUnit) → (access_unit fir
 read_back first u fits meets =
     let text = (access_unit first).spelling u in
     let end : 0 + length text ≡ length text = omega arith in
-    subst (λ (q : ℕ). (access_unit first).read text 0 ≡ Ok (u, q)) end ((access_unit_is first).found text 0 u (record { fits = fits; meets = meets; stands = record { within = omega arith; text_is = take_all (length text) text (omega arith) } }))
+    subst (λ (q : ℕ). (access_unit first).read text 0 ≡ Ok (u, q)) end
+    ((access_unit_is first).found text 0 u (record { fits = fits; meets = meets; stands = record { within = omega arith; text_is = take_all (length text) text (omega arith) } }))
 
 -- ---- the parity of what is written
 
@@ -32,7 +33,8 @@ fifteen s lt =
     let same : bit_xor s 15 % 16 ≡ bit_xor s 15 = omega (arith, small) in
     ap (λ (n : ℕ). bit_xor n s) (same ∙ xor_comm s 15) ∙ xor_assoc 15 s s ∙ ap (bit_xor 15) (xor_self s) ∙ xor_zero_r 15
 
-pub head_sum : (check words timing : ℕ) (es : List DirEntry) → words < 4096 → parity_of (record { check = check; words = words; timing = timing }) es ≡ bit_xor (check % 16) (half_byte_sum (bits 12 words ++ (bits 16 timing ++ (directory (length es)).spelling es)))
+pub head_sum : (check words timing : ℕ) (es : List DirEntry) → words < 4096 → parity_of (record { check = check; words = words; timing = timing }) es
+    ≡ bit_xor (check % 16) (half_byte_sum (bits 12 words ++ (bits 16 timing ++ (directory (length es)).spelling es)))
 head_sum check words timing es lt =
     let d = (directory (length es)).spelling es in
     let text : head.spelling (record { check = check; words = words; timing = timing }) ++ d ≡ bits 4 check ++ (bits 12 words ++ (bits 16 timing ++ d)) =
@@ -54,7 +56,8 @@ pub failing_any : (holds : DirEntry → Bool) (p q : ℕ) (es : List DirEntry) �
 failing_any holds p q [] e = refl
 failing_any holds p q (x ∷ es) e = by_case (λ k. failing_any holds (p + 8 * entry_size x) (q + 8 * entry_size x) es k) (holds x) refl e
   where
-    by_case : (first_failing holds (p + 8 * entry_size x) es ≡ None → first_failing holds (q + 8 * entry_size x) es ≡ None) → (b : Bool) → holds x ≡ b → cond {A = Option ℕ} b (first_failing holds (p + 8 * entry_size x) es) (Some p) ≡ None → cond {A = Option ℕ} (holds x) (first_failing holds (q + 8 * entry_size x) es) (Some q) ≡ None
+    by_case : (first_failing holds (p + 8 * entry_size x) es ≡ None → first_failing holds (q + 8 * entry_size x) es ≡ None) → (b : Bool) → holds x ≡ b
+        → cond {A = Option ℕ} b (first_failing holds (p + 8 * entry_size x) es) (Some p) ≡ None → cond {A = Option ℕ} (holds x) (first_failing holds (q + 8 * entry_size x) es) (Some q) ≡ None
     by_case later true is e = rw is (later e)
     by_case later false is e = absurd cc
 
@@ -62,7 +65,8 @@ pub ends_any : (before last p q : ℕ) (es : List DirEntry) → first_bad_end be
 ends_any before last p q [] e = refl
 ends_any before last p q (x ∷ es) e = by_case (λ k. ends_any x.end last (p + 8 * entry_size x) (q + 8 * entry_size x) es k) (leb before x.end && leb x.end last) refl e
   where
-    by_case : (first_bad_end x.end last (p + 8 * entry_size x) es ≡ None → first_bad_end x.end last (q + 8 * entry_size x) es ≡ None) → (b : Bool) → (leb before x.end && leb x.end last) ≡ b → cond {A = Option ℕ} b (first_bad_end x.end last (p + 8 * entry_size x) es) (Some p) ≡ None → cond {A = Option ℕ} (leb before x.end && leb x.end last) (first_bad_end x.end last (q + 8 * entry_size x) es) (Some q) ≡ None
+    by_case : (first_bad_end x.end last (p + 8 * entry_size x) es ≡ None → first_bad_end x.end last (q + 8 * entry_size x) es ≡ None) → (b : Bool) → (leb before x.end && leb x.end last) ≡ b
+        → cond {A = Option ℕ} b (first_bad_end x.end last (p + 8 * entry_size x) es) (Some p) ≡ None → cond {A = Option ℕ} (leb before x.end && leb x.end last) (first_bad_end x.end last (q + 8 * entry_size x) es) (Some q) ≡ None
     by_case later true is e = rw is (later e)
     by_case later false is e = absurd cc
 

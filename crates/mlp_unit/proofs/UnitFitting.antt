@@ -8,7 +8,7 @@ use Rattle.mlp_bits.specs.Bits.{bits, number}
 use Rattle.mlp_bits.proofs.BitLists.{length-bits, bits-split}
 use Rattle.mlp_bits.proofs.ReadBack.{number-of}
 use Rattle.mlp_layout.specs.Layout.{number_of, seen, whole, part, made, item, next_is}
-use Rattle.mlp_layout.specs.Combined.{flag, chosen, present, times}
+use Rattle.mlp_layout.specs.Combined.{chosen, present, times}
 use Rattle.mlp_layout.proofs.Fitting.{flag_fits}
 use Rattle.mlp_major.specs.MajorSync.{sync}
 use Rattle.mlp_unit.specs.Directory.{entry, directory}
@@ -71,10 +71,12 @@ plain_first e es is =
 first_bits : (word extra : ℕ) (rest : List Bool) → word < 65536 → extra < 65536 → number (take 31 ((bits 16 word ++ bits 16 extra) ++ rest)) ≡ (word * 65536 + extra) / 2
 first_bits word extra rest small less =
     let n = word * 65536 + extra in
-    let text : (bits 16 word ++ bits 16 extra) ++ rest ≡ bits 31 (n / 2) ++ (bits 1 n ++ rest) = ap (λ (t : List Bool). t ++ rest) (sym (bits-join 16 16 word extra less) ∙ bits-split 31 1 n) ∙ append_assoc (bits 31 (n / 2)) (bits 1 n) rest in
+    let text : (bits 16 word ++ bits 16 extra) ++ rest ≡ bits 31 (n / 2) ++ (bits 1 n ++ rest) = ap (λ (t : List Bool). t ++ rest)
+    (sym (bits-join 16 16 word extra less) ∙ bits-split 31 1 n) ∙ append_assoc (bits 31 (n / 2)) (bits 1 n) rest in
     ap (λ (t : List Bool). number (take 31 t)) text ∙ ap number (take_at (bits 31 (n / 2)) (bits 1 n ++ rest) 31 (length-bits 31 (n / 2))) ∙ number-of 31 (n / 2) (omega arith)
 
-pub extra_first : (e : DirEntry) (es : List DirEntry) (word extra : ℕ) → word < 65536 → extra < 65536 → entry.spelling e ≡ bits 16 word ++ bits 16 extra → next_is 31 sync ((directory (length (e ∷ es))).spelling (e ∷ es)) ≡ eqb ((word * 65536 + extra) / 2) sync
+pub extra_first : (e : DirEntry) (es : List DirEntry) (word extra : ℕ) → word < 65536 → extra < 65536 → entry.spelling e ≡ bits 16 word ++ bits 16 extra
+    → next_is 31 sync ((directory (length (e ∷ es))).spelling (e ∷ es)) ≡ eqb ((word * 65536 + extra) / 2) sync
 extra_first e es word extra small less is =
     let rest = (directory (length es)).spelling es in
     ap (λ (t : List Bool). eqb (number (take 31 t)) sync) (directory_first e es ∙ ap (λ (t : List Bool). t ++ rest) is) ∙ ap (λ (n : ℕ). eqb n sync) (first_bits word extra rest small less)
@@ -100,6 +102,7 @@ pub like_plain : (es : List DirEntry) (d : DirEntry) → 0 < length es → (get_
 like_plain [] d some is = absurd (omega arith)
 like_plain (e ∷ es) d some is = sym (plain_first e es is)
 
-pub like_extra : (es : List DirEntry) (d : DirEntry) (word extra : ℕ) → 0 < length es → word < 65536 → extra < 65536 → entry.spelling (get_or es 0 d) ≡ bits 16 word ++ bits 16 extra → eqb ((word * 65536 + extra) / 2) sync ≡ directory_like es
+pub like_extra : (es : List DirEntry) (d : DirEntry) (word extra : ℕ) → 0 < length es → word < 65536 → extra < 65536
+    → entry.spelling (get_or es 0 d) ≡ bits 16 word ++ bits 16 extra → eqb ((word * 65536 + extra) / 2) sync ≡ directory_like es
 like_extra [] d word extra some small less is = absurd (omega arith)
 like_extra (e ∷ es) d word extra some small less is = sym (extra_first e es word extra small less is)

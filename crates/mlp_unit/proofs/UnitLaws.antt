@@ -53,7 +53,8 @@ sum_is e = by_extra e.extra
 pub entry_takes : Takes entry (λ e. 8 * entry_size e)
 unfolding entry
 entry_takes = takes_is _ _ _
-    (part_takes _ _ _ _ _ flag_takes (λ there. part_takes _ _ _ _ _ flag_takes (λ a. part_takes _ _ _ _ _ flag_takes (λ a. part_takes _ _ _ _ _ flag_takes (λ a. part_takes _ _ _ _ _ (number_takes 12) (λ a. part_takes _ _ _ _ _ (extra_size there) (λ a. made_takes _)))))))
+    (part_takes _ _ _ _ _ flag_takes (λ there. part_takes _ _ _ _ _ flag_takes
+    (λ a. part_takes _ _ _ _ _ flag_takes (λ a. part_takes _ _ _ _ _ flag_takes (λ a. part_takes _ _ _ _ _ (number_takes 12) (λ a. part_takes _ _ _ _ _ (extra_size there) (λ a. made_takes _)))))))
     sum_is
 
 total_entries : (es : List DirEntry) → total (λ e. 8 * entry_size e) es ≡ 8 * directory_size es
@@ -121,7 +122,8 @@ sized_head : (first : Option MajorSync) (h : UnitHead) (u : AccessUnit) → (siz
 unfolding sized marked
 sized_head first h u fits = head_is_set first h (is_some u.major) u fits.0.0
 
-marked_fills : (first : Option MajorSync) (h : UnitHead) (u : AccessUnit) → (marked (leb 4 h.words) 31 sync (λ u. is_some u.major) (synced first h)).Fits u → 16 * h.words - 32 ≤ length ((marked (leb 4 h.words) 31 sync (λ u. is_some u.major) (synced first h)).spelling u)
+marked_fills : (first : Option MajorSync) (h : UnitHead) (u : AccessUnit) → (marked (leb 4 h.words) 31 sync (λ u. is_some u.major) (synced first h)).Fits u
+    → 16 * h.words - 32 ≤ length ((marked (leb 4 h.words) 31 sync (λ u. is_some u.major) (synced first h)).spelling u)
 unfolding marked
 marked_fills first h u fits = synced_fills first h (is_some u.major) u fits.0
 

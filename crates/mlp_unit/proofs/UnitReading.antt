@@ -1,5 +1,5 @@
 -- How a unit is read, part by part.
-use Rattle.std.proofs.Common.{◌≡◌, ℕ, zero, suc, ◌+◌, ◌-◌, ◌*◌, ◌/◌, ◌≤◌, ◌<◌, leb, eqb, true, false, cond, Bool, List, [], ◌∷◌, length, get_or, take, drop, Option, Some, None, Result, Ok, Err, refl, sym, ap, subst, ◌∙◌, arith, inl, inr}
+use Rattle.std.proofs.Common.{◌≡◌, ℕ, zero, suc, ◌+◌, ◌-◌, ◌*◌, ◌/◌, ◌≤◌, ◌<◌, leb, eqb, true, false, cond, Bool, List, [], ◌∷◌, length, get_or, take, drop, Option, Result, Ok, Err, refl, sym, ap, subst, ◌∙◌, arith, inl, inr}
 use Rattle.std.proofs.lemmas.Bool.{cases_lt, le-leb, lt-leb, leb-true}
 use Rattle.std.proofs.lemmas.List.{take_all, take_at, drop_more, length-drop}
 use Rattle.std.specs.Prelude.{◌&&◌, is_some}
@@ -9,7 +9,7 @@ use Rattle.mlp_syntax.specs.declared.major.MajorSync.{MajorSync}
 use Rattle.mlp_syntax.specs.declared.unit.DirEntry.{DirEntry}
 use Rattle.mlp_syntax.specs.declared.unit.UnitHead.{UnitHead}
 use Rattle.mlp_bits.specs.Bits.{bits, bits_of, number}
-use Rattle.mlp_bits.specs.Cursor.{Cursor, left}
+use Rattle.mlp_bits.specs.Cursor.{Cursor, left, moved}
 use Rattle.mlp_bits.proofs.BitLists.{length-bits, length-bits_of, bits_of-cons}
 use Rattle.mlp_bits.proofs.ReadBack.{number-of}
 use Rattle.mlp_bits.proofs.Words.{bits_of-drop}
@@ -67,7 +67,8 @@ module _ (first : Option MajorSync) (h : UnitHead) (m : Option MajorSync) (all :
     unfolding behind_sync tested part
     behind_err e k = rw (there, k) refl
 
-    pub behind_read : (es : List DirEntry) (q : ℕ) (body : List ℕ) (end : ℕ) → (directory (substreams_of (in_force first m))).read all p ≡ Ok (es, q) → (times (2 * h.words - 4 - major_size m - directory_size es) (number_of 8)).read all q ≡ Ok (body, end)
+    pub behind_read : (es : List DirEntry) (q : ℕ) (body : List ℕ) (end : ℕ) → (directory (substreams_of (in_force first m))).read all p ≡ Ok (es, q)
+        → (times (2 * h.words - 4 - major_size m - directory_size es) (number_of 8)).read all q ≡ Ok (body, end)
         → (behind_sync first h m).read all p ≡ Ok (record { head = h; major = m; entries = es; body = body }, end)
     unfolding behind_sync tested part made
     behind_read es q body end k l = rw (there, k, l) refl
@@ -82,7 +83,8 @@ directory_ends n all p es q le e =
 unit_ok : AccessUnit → ℕ → Read AccessUnit
 unit_ok u q = Ok (u, q)
 
-module _ (first : Option MajorSync) (h : UnitHead) (m : Option MajorSync) (bytes : List ℕ) (r : Cursor) (same : r.all ≡ bits_of bytes) (place : r.place ≡ 32 + 8 * major_size m) (inside : r.place ≤ length r.all) (size : length bytes ≡ 2 * h.words) (small : (i : ℕ) → get_or bytes i 0 < 256) where
+module _ (first : Option MajorSync) (h : UnitHead) (m : Option MajorSync) (bytes : List ℕ) (r : Cursor) (same : r.all ≡ bits_of bytes) (place : r.place ≡ 32 + 8 * major_size m)
+    (inside : r.place ≤ length r.all) (size : length bytes ≡ 2 * h.words) (small : (i : ℕ) → get_or bytes i 0 < 256) where
   -- where the body begins
   pub body_at : (n : ℕ) (es : List DirEntry) (b : Cursor) → (directory n).read r.all r.place ≡ Ok (es, b.place) → b.place / 8 ≡ 4 + major_size m + directory_size es
   body_at n es b k = omega (arith, directory_ends n r.all r.place es b.place inside k)
@@ -99,7 +101,9 @@ module _ (first : Option MajorSync) (h : UnitHead) (m : Option MajorSync) (bytes
       let place-is : 8 * (b.place / 8) ≡ b.place = omega (arith, at, ends) in
       let body : (times n (number_of 8)).read (bits_of bytes) (8 * (b.place / 8)) ≡ Ok (take n (drop (b.place / 8) bytes), 8 * (b.place / 8 + n)) = bytes_read n bytes (b.place / 8) small (omega (arith, full)) in
       let rest : take n (drop (b.place / 8) bytes) ≡ drop (b.place / 8) bytes = take_all n (drop (b.place / 8) bytes) (omega (arith, full, length-drop (b.place / 8) bytes)) in
-      let here : (times n (number_of 8)).read r.all b.place ≡ Ok (drop (b.place / 8) bytes, 8 * length bytes) = subst (λ (all : List Bool). (times n (number_of 8)).read all b.place ≡ Ok (drop (b.place / 8) bytes, 8 * length bytes)) (sym same) (subst (λ (q : ℕ). (times n (number_of 8)).read (bits_of bytes) q ≡ Ok (drop (b.place / 8) bytes, 8 * length bytes)) place-is (body ∙ rw (rest, full) refl)) in
+      let here : (times n (number_of 8)).read r.all b.place ≡ Ok (drop (b.place / 8) bytes, 8 * length bytes) =
+      subst (λ (all : List Bool). (times n (number_of 8)).read all b.place ≡ Ok (drop (b.place / 8) bytes, 8 * length bytes)) (sym same)
+      (subst (λ (q : ℕ). (times n (number_of 8)).read (bits_of bytes) q ≡ Ok (drop (b.place / 8) bytes, 8 * length bytes)) place-is (body ∙ rw (rest, full) refl)) in
       behind_read first h m r.all r.place there es b.place (drop (b.place / 8) bytes) (8 * length bytes) k here
 
 -- ---- the parts
@@ -135,7 +139,8 @@ room_is words size e = elim (cases_lt words 4) [
 ]
 
 -- the bits behind the head
-pub bits_behind : (n : ℕ) (bytes : List ℕ) (c : Cursor) → 8 ≤ length bytes → c ≡ record { all = bits_of (take (length bytes - 4) (drop 4 bytes)); place = 0 } → n ≡ number (take 31 (left c)) → eqb n sync ≡ (leb 8 (length bytes) && next_is 31 sync (drop 32 (bits_of bytes)))
+pub bits_behind : (n : ℕ) (bytes : List ℕ) (c : Cursor) → 8 ≤ length bytes → c ≡ record { all = bits_of (take (length bytes - 4) (drop 4 bytes)); place = 0 }
+    → n ≡ number (take 31 (left c)) → eqb n sync ≡ (leb 8 (length bytes) && next_is 31 sync (drop 32 (bits_of bytes)))
 bits_behind n bytes c le c-is e =
     let r : Cursor = record { all = bits_of bytes; place = 32 } in
     let here : n ≡ number (take 31 (bits_of (take (length bytes - 4) (drop 4 bytes)))) = e ∙ ap (λ (d : Cursor). number (take 31 (left d))) c-is in
@@ -155,7 +160,8 @@ pub framed_ok : (left : ℕ) (r : Read UnitHead) (n : ℕ) → framed left r ≡
 framed_ok left (Err e) n k = absurd cc
 framed_ok left (Ok h) n k = by_case (leb (2 * h.0.words) left) refl k
   where
-    by_case : (b : Bool) → leb (2 * h.0.words) left ≡ b → cond {A = Result ℕ Broken} b (Ok (2 * h.0.words)) (Err (broken rule.UnitLength 4)) ≡ Ok n → (g : UnitHead) × (q : ℕ) × ((let r : Read UnitHead = Ok h in r) ≡ Ok (g, q)) × (n ≡ 2 * g.words) × (n ≤ left)
+    by_case : (b : Bool) → leb (2 * h.0.words) left ≡ b → cond {A = Result ℕ Broken} b (Ok (2 * h.0.words)) (Err (broken rule.UnitLength 4)) ≡ Ok n
+        → (g : UnitHead) × (q : ℕ) × ((let r : Read UnitHead = Ok h in r) ≡ Ok (g, q)) × (n ≡ 2 * g.words) × (n ≤ left)
     by_case true le e = let same : 2 * h.0.words ≡ n = cc in (h.0, h.1, refl, sym same, omega (arith, leb-true _ _ le))
     by_case false le e = absurd cc
 
@@ -176,7 +182,16 @@ framed_head bytes h q e k =
 
 -- ---- as the code goes
 
-module _ (first : Option MajorSync) (bytes : List ℕ) (h : UnitHead) (framed : frame_of bytes ≡ Ok (length bytes)) (r : Cursor) (same : r.all ≡ bits_of bytes) (e : head.read (bits_of bytes) 0 ≡ Ok (h, r.place)) (there : Bool) (is : there ≡ (leb 8 (length bytes) && next_is 31 sync (drop 32 (bits_of bytes)))) where
+-- behind the head
+pub skipped : (bytes : List ℕ) (h : UnitHead) (r s : Cursor) → r ≡ record { all = bits_of bytes; place = 0 } → s ≡ moved 32 r → head.read (bits_of bytes) 0 ≡ Ok (h, 32)
+    → (s.all ≡ bits_of bytes) × (head.read (bits_of bytes) 0 ≡ Ok (h, s.place))
+skipped bytes h r s start behind e =
+    let all : s.all ≡ bits_of bytes = ap (λ (c : Cursor). c.all) behind ∙ ap (λ (c : Cursor). c.all) start in
+    let place : s.place ≡ 32 = omega (arith, ap (λ (c : Cursor). c.place) behind, ap (λ (c : Cursor). c.place) start) in
+    (all, subst (λ (q : ℕ). head.read (bits_of bytes) 0 ≡ Ok (h, q)) (sym place) e)
+
+module _ (first : Option MajorSync) (bytes : List ℕ) (h : UnitHead) (framed : frame_of bytes ≡ Ok (length bytes)) (r : Cursor) (same : r.all ≡ bits_of bytes)
+    (e : head.read (bits_of bytes) 0 ≡ Ok (h, r.place)) (there : Bool) (is : there ≡ (leb 8 (length bytes) && next_is 31 sync (drop 32 (bits_of bytes)))) where
   parts_go : (parts first).read (bits_of bytes) 0 ≡ after_head first h (bits_of bytes) there
   parts_go =
       let f = framed_head bytes h r.place framed e in

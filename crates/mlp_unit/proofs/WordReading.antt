@@ -28,9 +28,6 @@ use Rattle.mlp_unit.proofs.UnitFitting.{extra_small, entry_fits_by}
 abbrev read_ok : {A : Type 0} → A → ℕ → Read A
 read_ok x q = Ok (x, q)
 
-abbrev read_err : {A : Type 0} → Broken → Read A
-read_err e = Err e
-
 short_size : (w : ℕ) (all : List Bool) (p : ℕ) (e : Broken) → p ≤ length all → (number_of w).read all p ≡ Err e → length all < p + w
 unfolding number_of
 short_size w all p e le h = (is_failed (number_of_is w) all p le e h).0
@@ -112,7 +109,8 @@ module _ (all : List Bool) (p : ℕ) (le : p ≤ length all) where
         let is : is_some o ≡ there = some_is there o f.0.fits in
         let e = entry_of w o in
         let text : entry.spelling e ≡ bits 16 w ++ (present there (number_of 16)).spelling o = entry_text e w (omega arith) (word_again w o n.0 is) ∙ ap (λ (c : Bool). bits 16 w ++ (present c (number_of 16)).spelling o) is in
-        let back : Stands all (p + length (bits 16 w)) ((present there (number_of 16)).spelling o) = subst (λ (k : ℕ). Stands all k ((present there (number_of 16)).spelling o)) (n.2 ∙ ap (λ (k : ℕ). p + k) (sym (length-bits 16 w))) f.0.stands in
+        let back : Stands all (p + length (bits 16 w)) ((present there (number_of 16)).spelling o) =
+        subst (λ (k : ℕ). Stands all k ((present there (number_of 16)).spelling o)) (n.2 ∙ ap (λ (k : ℕ). p + k) (sym (length-bits 16 w))) f.0.stands in
         let fits = (entry_fits_by e (extra_small o (subst (λ (c : Bool). (present c (number_of 16)).Fits o) (sym is) f.0.fits))).0 (lt-ltb (w % 4096) 4096 (omega arith)) in
         let end : behind entry p e ≡ b = omega (arith, n.2, f.1, ap (λ (t : List Bool). length t) text, length-append (bits 16 w) ((present there (number_of 16)).spelling o), length-bits 16 w) in
         let found : Found entry all p e = record { fits = fits; meets = entry_meets e; stands = subst (Stands all p) (sym text) (Stands-append all p (bits 16 w) ((present there (number_of 16)).spelling o) n.1 back) } in

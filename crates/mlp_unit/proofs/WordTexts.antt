@@ -12,7 +12,7 @@ use Rattle.mlp_bits.proofs.Writing.{bits_of-one}
 use Rattle.mlp_layout.specs.Layout.{number_of, seen, ruled, whole, part, made, item}
 use Rattle.mlp_layout.specs.Combined.{flag, chosen, present, times}
 use Rattle.mlp_unit.specs.Directory.{entry, entry_size, directory, directory_size}
-use Rattle.mlp_unit.specs.AccessUnit.{head, head_fields, half_byte_sum, parity_of}
+use Rattle.mlp_unit.specs.AccessUnit.{head, head_fields, half_byte_sum, SumIs, parity_of}
 use Rattle.mlp_unit.proofs.ParityLaws.{one_byte}
 
 -- a number made of two
@@ -52,7 +52,8 @@ word_bytes word lt =
     ap (bits 16) (sym e) ∙ bits-join 8 8 (word / 256) (word % 256) (omega arith)
 
 pub pushed_word : (old : List ℕ) (word : ℕ) → word < 65536 → bits_of ((old ++ word / 256 ∷ []) ++ word % 256 ∷ []) ≡ bits_of old ++ bits 16 word
-pushed_word old word lt = rw (bits_of-append (old ++ word / 256 ∷ []) (word % 256 ∷ []), bits_of-append old (word / 256 ∷ []), bits_of-one (word / 256), bits_of-one (word % 256), word_bytes word lt) (append_assoc (bits_of old) (bits 8 (word / 256)) (bits 8 (word % 256)))
+pushed_word old word lt = rw (bits_of-append (old ++ word / 256 ∷ []) (word % 256 ∷ []), bits_of-append old (word / 256 ∷ []), bits_of-one (word / 256), bits_of-one (word % 256), word_bytes word lt)
+    (append_assoc (bits_of old) (bits 8 (word / 256)) (bits 8 (word % 256)))
 
 pub nibbles_sum : (word : ℕ) (rest : List Bool) → word < 65536 → half_byte_sum (bits 16 word ++ rest) ≡ bit_xor (bit_xor (bit_xor (word / 256 / 16) (word / 256 % 16)) (bit_xor (word % 256 / 16) (word % 256 % 16))) (half_byte_sum rest)
 nibbles_sum word rest lt =
@@ -84,7 +85,8 @@ module _ (es : List DirEntry) (i : ℕ) (d : DirEntry) (lt : i < length es) wher
   unfolding directory times item whole
   entries_fit fits =
       let k = length es - (i + 1) in
-      let here : (directory (suc k)).Fits (get_or es i d ∷ drop (i + 1) es) = subst (λ (n : ℕ). (directory n).Fits (get_or es i d ∷ drop (i + 1) es)) count_is (subst (λ (xs : List DirEntry). (directory (length es - i)).Fits xs) more_is fits) in
+      let here : (directory (suc k)).Fits (get_or es i d ∷ drop (i + 1) es) = subst (λ (n : ℕ). (directory n).Fits (get_or es i d ∷ drop (i + 1) es)) count_is
+      (subst (λ (xs : List DirEntry). (directory (length es - i)).Fits xs) more_is fits) in
       (here.0, here.1)
 
   pub sizes_go_on : directory_size (drop i es) ≡ entry_size (get_or es i d) + directory_size (drop (i + 1) es)
@@ -116,9 +118,7 @@ module _ (e : DirEntry) (word : ℕ) (text : entry.spelling e ≡ bits 16 word +
   pub text_some : (x : ℕ) → e.extra ≡ Some x → entry.spelling e ≡ bits 16 word ++ bits 16 x
   text_some x is = text ∙ ap (λ (t : List Bool). bits 16 word ++ t) (present_text e.extra ∙ ap extra_text is)
 
--- the sum of a text's half bytes, before more
-abbrev pub SumIs : List Bool → ℕ → Type 0
-SumIs text n = (rest : List Bool) → half_byte_sum (text ++ rest) ≡ bit_xor n (half_byte_sum rest)
+-- sums of half bytes
 
 pub sum_both : (a b : List Bool) (m n : ℕ) → SumIs a m → SumIs b n → SumIs (a ++ b) (bit_xor m n)
 sum_both a b m n h k rest = ap half_byte_sum (append_assoc a b rest) ∙ h (b ++ rest) ∙ ap (bit_xor m) (k rest) ∙ sym (xor_assoc m n (half_byte_sum rest))
@@ -144,7 +144,8 @@ sum_starts words timing a b es lt one two =
     ∙ sym (sum_both (bits 16 words) (bits 16 timing) a b one two text)
     ∙ ap (λ (t : List Bool). half_byte_sum (t ++ text)) (ap (λ (n : ℕ). bits 16 n ++ bits 16 timing) (sym zero-check) ∙ sym (head_text 0 words timing lt))
 
-pub sum_goes_on : (s n total : ℕ) (es : List DirEntry) (i : ℕ) (d : DirEntry) → i < length es → SumIs (entry.spelling (get_or es i d)) n → bit_xor s (half_byte_sum (entries_left es i)) ≡ total → bit_xor (bit_xor s n) (half_byte_sum (entries_left es (i + 1))) ≡ total
+pub sum_goes_on : (s n total : ℕ) (es : List DirEntry) (i : ℕ) (d : DirEntry) → i < length es → SumIs (entry.spelling (get_or es i d)) n
+    → bit_xor s (half_byte_sum (entries_left es i)) ≡ total → bit_xor (bit_xor s n) (half_byte_sum (entries_left es (i + 1))) ≡ total
 sum_goes_on s n total es i d lt h so_far =
     xor_assoc s n (half_byte_sum (entries_left es (i + 1))) ∙ ap (bit_xor s) (sym (h (entries_left es (i + 1))) ∙ ap half_byte_sum (sym (entries_go_on es i d lt))) ∙ so_far
 

@@ -88,7 +88,8 @@ pub directory_first_fits : (e : DirEntry) (es : List DirEntry) → (directory (l
 unfolding directory times item whole
 directory_first_fits e es fits = fits.0
 
-pub unlike_still : (es : List DirEntry) (more : List Bool) → 0 < length es → (directory (length es)).Fits es → next_is 31 sync ((directory (length es)).spelling es) ≡ false → next_is 31 sync ((directory (length es)).spelling es ++ more) ≡ false
+pub unlike_still : (es : List DirEntry) (more : List Bool) → 0 < length es → (directory (length es)).Fits es
+    → next_is 31 sync ((directory (length es)).spelling es) ≡ false → next_is 31 sync ((directory (length es)).spelling es ++ more) ≡ false
 unlike_still [] more some fits unlike = absurd (omega arith)
 unlike_still (e ∷ es) more some fits unlike = by_extra e.extra refl
   where
@@ -99,7 +100,8 @@ unlike_still (e ∷ es) more some fits unlike = by_extra e.extra refl
     by_extra None is =
         let b = behind_first_bit e in
         let t = b.0 ++ (directory (length es)).spelling es ++ more in
-        let first : (directory (length (e ∷ es))).spelling (e ∷ es) ++ more ≡ false ∷ t = ap (λ (t : List Bool). t ++ more) (directory_first e es ∙ ap (λ (t : List Bool). t ++ (directory (length es)).spelling es) (b.1 ∙ ap (λ (o : Option ℕ). is_some o ∷ b.0) is)) in
+        let first : (directory (length (e ∷ es))).spelling (e ∷ es) ++ more ≡ false ∷ t = ap (λ (t : List Bool). t ++ more) (directory_first e es
+        ∙ ap (λ (t : List Bool). t ++ (directory (length es)).spelling es) (b.1 ∙ ap (λ (o : Option ℕ). is_some o ∷ b.0) is)) in
         ap (λ (t : List Bool). eqb (number (take 31 t)) sync) first ∙ no_sync t
     by_extra (Some x) is =
         let len = entry_takes.takes e (directory_first_fits e es fits) in
@@ -144,15 +146,26 @@ module _ (first : Option MajorSync) (timing : ℕ) (major : Option MajorSync) (e
       let n = 2 * h.words - 4 - major_size major - directory_size entries in
       rw (count, bytes_text n body (omega (arith, words, twice major entries body w)), append-nil (bits_of body)) refl
 
-  rest_text : (h : UnitHead) → h.words ≡ unit_size major entries body / 2 → (present (is_some major) (major_sync first)).spelling major ++ (behind_sync first h major).spelling (written_unit timing major entries body) ≡ text_behind major entries body
+  rest_text : (h : UnitHead) → h.words ≡ unit_size major entries body / 2 → (present (is_some major) (major_sync first)).spelling major ++
+      (behind_sync first h major).spelling (written_unit timing major entries body) ≡ text_behind major entries body
   rest_text h words = ap (λ (t : List Bool). t ++ (behind_sync first h major).spelling (written_unit timing major entries body)) (major_spelled first major) ∙ ap (λ (t : List Bool). major_text major ++ t) (behind_text h words)
 
   rest_bits : length (text_behind major entries body) ≡ 16 * (unit_size major entries body / 2) - 32
-  rest_bits = omega (arith, twice major entries body w, major_bits major w.major_fits, (directory_takes (length entries)).takes entries w.entries_fit, length-bits_of body, length-append (major_text major) ((directory (length entries)).spelling entries ++ bits_of body), length-append ((directory (length entries)).spelling entries) (bits_of body))
+  rest_bits = omega (
+    arith,
+    twice major entries body w,
+    major_bits major w.major_fits,
+    (directory_takes (length entries)).takes entries w.entries_fit,
+    length-bits_of body,
+    length-append
+        (major_text major) ((directory (length entries)).spelling entries ++ bits_of body),
+    length-append ((directory (length entries)).spelling entries) (bits_of body),
+  )
 
   pub unit_text : (access_unit first).spelling (written_unit timing major entries body) ≡ head.spelling (written_head timing (unit_size major entries body / 2) entries) ++ text_behind major entries body
   unfolding access_unit parts sized marked part
-  unit_text = under_text (rules first) _ (written_unit timing major entries body) ∙ ap (λ (t : List Bool). head.spelling (written_head timing (unit_size major entries body / 2) entries) ++ t) (rest_text (written_head timing (unit_size major entries body / 2) entries) refl)
+  unit_text = under_text (rules first) _ (written_unit timing major entries body)
+      ∙ ap (λ (t : List Bool). head.spelling (written_head timing (unit_size major entries body / 2) entries) ++ t) (rest_text (written_head timing (unit_size major entries body / 2) entries) refl)
 
   -- as the code puts it together
   pub put_together : (word : ℕ) (a b c d e : List Bool) → unit_size major entries body ≤ 8190 → word ≡ (written_head timing (unit_size major entries body / 2) entries).check * 4096 + unit_size major entries body / 2

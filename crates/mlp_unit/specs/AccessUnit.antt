@@ -1,5 +1,5 @@
 -- An access unit as its outer part shows it.
-use Rattle.std.specs.Prelude.{ℕ, ◌+◌, ◌-◌, ◌*◌, ◌/◌, ◌==◌, nat_le, ◌&&◌, not, Bool, List, [], ◌∷◌, ◌++◌, length, Option, Some, None, is_some, bit_xor, if◌then◌else◌}
+use Rattle.std.specs.Prelude.{◌≡◌, ℕ, ◌+◌, ◌-◌, ◌*◌, ◌/◌, ◌==◌, nat_le, ◌&&◌, not, Bool, List, [], ◌∷◌, ◌++◌, length, Option, Some, None, is_some, bit_xor, if◌then◌else◌}
 use Rattle.mlp_syntax.specs.declared.major.Kind.{Kind}
 use Rattle.mlp_syntax.specs.declared.major.Kind.TheVariants.{Fba}
 use Rattle.mlp_syntax.specs.declared.major.MajorSync.{MajorSync}
@@ -98,6 +98,10 @@ is_restart_flag major e = if major then not e.restart_absent else e.restart_abse
 unfoldable pub half_byte_sum : List Bool → ℕ
 half_byte_sum (a ∷ b ∷ c ∷ d ∷ bits) = bit_xor (number (a ∷ b ∷ c ∷ d ∷ [])) (half_byte_sum bits)
 half_byte_sum bits = 0
+
+-- it is this of a text, before whatever stands behind it
+abbrev pub SumIs : List Bool → ℕ → Type 0
+SumIs text n = (rest : List Bool) → half_byte_sum (text ++ rest) ≡ bit_xor n (half_byte_sum rest)
 
 -- the major sync isn't in it
 abbrev pub parity_of : UnitHead → List DirEntry → ℕ

@@ -17,6 +17,10 @@ entry =
     part (present there (number_of 16)) (λ e. e.extra) (λ extra.
     made (record { extra = extra; restart_absent = restart_absent; checked = checked; reserved = reserved; end = end })))))))
 
+-- the bits of an extra word, where one is there
+abbrev pub extra_bits : Option ℕ → List Bool
+extra_bits o = (present (is_some o) (number_of 16)).spelling o
+
 -- so many entries
 unfoldable pub directory : ℕ → Layout (List DirEntry)
 directory substreams = times substreams (whole rule.DirectoryShort entry)

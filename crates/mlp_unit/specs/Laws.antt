@@ -1,12 +1,12 @@
 -- What the laws of units say.
-use Rattle.std.specs.Prelude.{◌≡◌, ◌↔◌, ℕ, ◌+◌, ◌*◌, ◌^◌, ◌<◌, ◌≤◌, Bool, List, take, Option, None, All, option_map}
+use Rattle.std.specs.Prelude.{◌≡◌, ◌↔◌, ℕ, ◌+◌, ◌*◌, ◌^◌, ◌<◌, ◌≤◌, Bool, List, length, take, Option, None, Ok, All, option_map}
 use Rattle.mlp_syntax.specs.declared.fault.Broken.{Broken}
 use Rattle.mlp_syntax.specs.declared.major.MajorSync.{MajorSync}
 use Rattle.mlp_syntax.specs.declared.unit.DirEntry.{DirEntry}
 use Rattle.mlp_layout.specs.Layout.{Layout, Found}
 use Rattle.mlp_major.specs.MajorSync.{Alike, smaller}
 use Rattle.mlp_unit.specs.AccessUnit.{AccessUnit, access_unit}
-use Rattle.mlp_unit.specs.Shape.{end_at}
+use Rattle.mlp_unit.specs.Shape.{end_at, unit_read}
 use Rattle.mlp_unit.specs.Written.{MayFollow, Writable, unit_size, written_unit}
 use Rattle.mlp_layout.specs.Allowed.{Allowed}
 use Rattle.mlp_unit.specs.Extracted.{extracted}
@@ -34,6 +34,15 @@ pub record MayBeNext (first : Option MajorSync) (timing : ℕ) (major : Option M
   pub clock : timing < 2 ^ 16
   pub bytes : AreBytes body
   pub small : unit_size major entries body ≤ 8190
+
+-- these bytes, all of them, are read as this unit
+abbrev pub WasRead : Option MajorSync → List ℕ → AccessUnit → Type 0
+WasRead first bytes u = unit_read first bytes ≡ Ok (u, 8 * length bytes)
+
+-- it can be written, and is what is written for its timing, major sync, entries and body
+pub record IsRewritten (u : AccessUnit) : Type 0 where
+  pub writable : Writable u.major u.entries u.body
+  pub same : written_unit u.head.timing u.major u.entries u.body ≡ u
 
 -- a unit with another timing, and another body of as many bytes
 pub record RewrittenMeets (first : Option MajorSync) (timing : ℕ) (u : AccessUnit) (body : List ℕ) : Type 0 where

@@ -1,10 +1,10 @@
 -- Streams as their outer parts show them: no segment is read.
-use Rattle.std.specs.Prelude.{ℕ, min, List, Option, None}
+use Rattle.std.specs.Prelude.{◌≡◌, ◌⊎◌, ℕ, min, List, Option, None}
 use Rattle.mlp_syntax.specs.declared.fault.Fault.{Fault}
 use Rattle.mlp_syntax.specs.declared.major.MajorSync.{MajorSync}
 use Rattle.mlp_bits.specs.Bits.{bits_of}
 use Rattle.mlp_layout.specs.Contents.{nothing}
-use Rattle.mlp_layout.specs.Streams.{Format, UnitOf, Units, UnitsFail, HasOneEnd}
+use Rattle.mlp_layout.specs.Streams.{Format, UnitOf, Units, UnitsFail}
 use Rattle.mlp_unit.specs.AccessUnit.{AccessUnit, access_unit, in_force, substreams_of}
 
 -- units leave the stream's first major sync; a fourth substream has no presentation of its own
@@ -25,5 +25,8 @@ abbrev pub OutlineBreaks : List ℕ → Fault → Type 0
 OutlineBreaks bytes fault = UnitsFail outline None (bits_of bytes) fault
 
 -- exactly one of the two holds, with one list or one fault
-abbrev pub HasOneOutline : List ℕ → Type 0
-HasOneOutline bytes = HasOneEnd outline None (bits_of bytes)
+pub record HasOneOutline (bytes : List ℕ) : Type 0 where
+  pub some : ((us : _) × Outline bytes us) ⊎ ((fault : Fault) × OutlineBreaks bytes fault)
+  pub not_both : (us : _) (fault : Fault) → Outline bytes us → OutlineBreaks bytes fault → ⊥
+  pub one_list : (us vs : _) → Outline bytes us → Outline bytes vs → us ≡ vs
+  pub one_fault : (d e : Fault) → OutlineBreaks bytes d → OutlineBreaks bytes e → d ≡ e

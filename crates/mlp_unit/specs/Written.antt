@@ -7,7 +7,7 @@ use Rattle.mlp_bits.specs.Bits.{bits_of}
 use Rattle.mlp_layout.specs.Layout.{next_is}
 use Rattle.mlp_major.specs.MajorSync.{major_sync, sync, IsUsable, KeepsRules}
 use Rattle.mlp_unit.specs.Directory.{directory, directory_size, first_failing, may_stand}
-use Rattle.mlp_unit.specs.AccessUnit.{AccessUnit, head, in_force, substreams_of, stream_kind, major_size, is_restart_flag, parity_of, first_bad_end}
+use Rattle.mlp_unit.specs.AccessUnit.{AccessUnit, access_unit, head, in_force, substreams_of, stream_kind, major_size, is_restart_flag, parity_of, first_bad_end}
 
 abbrev pub MajorFits : Option MajorSync → Type 0
 MajorFits None = Unit {0}
@@ -72,3 +72,9 @@ written_unit timing major entries body = record {
   entries = entries;
   body = body;
 }
+
+-- behind each first sync that tells as many substreams these bytes are the unit's
+abbrev pub SpellsUnit : AccessUnit → List ℕ → Type 0
+SpellsUnit u bytes =
+    (first : Option MajorSync) → substreams_of (in_force first u.major) ≡ length u.entries
+    → (access_unit first).Fits u × (bits_of bytes ≡ (access_unit first).spelling u)

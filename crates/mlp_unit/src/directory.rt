@@ -64,8 +64,11 @@ pub fn read_entries(
     Ok(())
 }
 
-/// The entries of a directory at the front of these bytes and their length in bytes; or DirectoryShort where the bytes
-/// end inside an entry or its extra word, or ExtraWord where MLP has one.
+/// The entries of a directory at the front of these bytes and their length in bytes.
+///
+/// # Errors
+///
+/// DirectoryShort where the bytes end inside an entry or its extra word; ExtraWord where MLP has one.
 pub fn read_directory(
     kind: Kind,
     substreams: u8,

@@ -8,7 +8,7 @@ ghost use Rattle.mlp_unit.specs.Written.{MajorFits, CountFits, Writable};
 
 use crate::rules::first_bad_end;
 use crate::writing::entry_word;
-use mlp_major::fits;
+use mlp_major::{SYNC, fits};
 use mlp_syntax::{DirEntry, MajorSync};
 
 fn major_fits(major: Option<&MajorSync>) -> bool
@@ -61,7 +61,7 @@ fn is_like_sync(entries: &[DirEntry]) -> bool
     let first = entries[0];
     match first.extra {
         None => false,
-        Some(extra) => (u32::from(entry_word(&first)) * 65536 + u32::from(extra)) / 2 == 0x7C3937DD,
+        Some(extra) => (u32::from(entry_word(&first)) * 65536 + u32::from(extra)) / 2 == SYNC,
     }
 }
 

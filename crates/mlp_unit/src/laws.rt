@@ -9,8 +9,9 @@ ghost use Rattle.mlp_major.specs.MajorSync.{Alike};
 ghost use Rattle.mlp_syntax.specs.declared.unit.DirEntry.{DirEntry};
 ghost use Rattle.mlp_unit.specs.AccessUnit.{AccessUnit, access_unit, half_byte_sum};
 ghost use Rattle.mlp_layout.specs.Allowed.{Allowed};
-ghost use Rattle.mlp_unit.specs.Laws.{AreBytes, MayBeNext, SameLayout, CouldBeFirst, RewrittenMeets, FewerMeets};
-ghost use Rattle.mlp_unit.specs.Written.{FirstUsable, Writable, written_unit, unit_text};
+ghost use Rattle.mlp_unit.specs.Laws.{AreBytes, MayBeNext, SameLayout, CouldBeFirst, WasRead, IsRewritten, RewrittenMeets, FewerMeets};
+ghost use Rattle.mlp_unit.specs.Written.{FirstUsable, written_unit, unit_text};
+ghost use Rattle.mlp_unit.specs.Shape.{unit_read};
 ghost use Rattle.mlp_unit.specs.Frame.{frame_of};
 ghost use Rattle.mlp_unit.specs.Outline.{HasOneOutline};
 
@@ -22,12 +23,15 @@ pub fn law_access_unit()
 /// Where there is no frame the unit fails with the same fault. The bytes of a frame are read as the unit that all the bytes
 /// are read as. Of a longer stream 8190 bytes are enough.
 pub fn law_frame()
-    ensures fails { (first : Option MajorSync) (next : List ℕ) (e : Broken) → frame_of next ≡ Err e → (access_unit first).read (bits_of next) 0 ≡ Err e }
+    ensures fails { (first : Option MajorSync) (next : List ℕ) (e : Broken) → frame_of next ≡ Err e
+        → unit_read first next ≡ Err e }
     ensures size { (next : List ℕ) (n : ℕ) → frame_of next ≡ Ok n → (4 ≤ n) × (n ≤ 8190) × (n ≤ length next) }
     ensures alone { (next : List ℕ) (n : ℕ) → frame_of next ≡ Ok n → frame_of (take n next) ≡ Ok n }
-    ensures same { (first : Option MajorSync) (next : List ℕ) (n : ℕ) → frame_of next ≡ Ok n → (access_unit first).read (bits_of next) 0 ≡ (access_unit first).read (bits_of (take n next)) 0 }
+    ensures same { (first : Option MajorSync) (next : List ℕ) (n : ℕ) → frame_of next ≡ Ok n
+        → unit_read first next ≡ unit_read first (take n next) }
     ensures more { (next more : List ℕ) → 8190 ≤ length next → frame_of (next ++ more) ≡ frame_of next }
-    ensures enough { (first : Option MajorSync) (next more : List ℕ) → 8190 ≤ length next → (access_unit first).read (bits_of (next ++ more)) 0 ≡ (access_unit first).read (bits_of next) 0 }
+    ensures enough { (first : Option MajorSync) (next more : List ℕ) → 8190 ≤ length next
+        → unit_read first (next ++ more) ≡ unit_read first next }
 {}
 
 /// Bytes are one list of units whose outer parts meet the rules, or the first rule fails in one unit, and not both.
@@ -82,10 +86,11 @@ pub fn law_parity()
     ensures { (bytes : List ℕ) → AreBytes bytes → half_byte_sum (bits_of bytes) ≡ nibble_parity_of bytes }
 {}
 
-/// A unit that was read is the one that is written for its timing, major sync, entries and body. So its own bytes are
-/// written again.
+/// A unit that was read can be written, and is the one that is written for its timing, major sync, entries and body. So its
+/// own bytes are written again.
 pub fn law_reread()
-    ensures writable { (first : Option MajorSync) (bytes : List ℕ) (u : AccessUnit) → FirstUsable first → (access_unit first).read (bits_of bytes) 0 ≡ Ok (u, 8 * length bytes) → Writable u.major u.entries u.body }
-    ensures same { (first : Option MajorSync) (bytes : List ℕ) (u : AccessUnit) → FirstUsable first → (access_unit first).read (bits_of bytes) 0 ≡ Ok (u, 8 * length bytes) → written_unit u.head.timing u.major u.entries u.body ≡ u }
-    ensures bits { (first : Option MajorSync) (bytes : List ℕ) (u : AccessUnit) → (access_unit first).read (bits_of bytes) 0 ≡ Ok (u, 8 * length bytes) → (access_unit first).spelling u ≡ bits_of bytes }
+    ensures written { (first : Option MajorSync) (bytes : List ℕ) (u : AccessUnit) → FirstUsable first
+        → WasRead first bytes u → IsRewritten u }
+    ensures bits { (first : Option MajorSync) (bytes : List ℕ) (u : AccessUnit) → WasRead first bytes u
+        → (access_unit first).spelling u ≡ bits_of bytes }
 {}

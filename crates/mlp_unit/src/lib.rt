@@ -13,6 +13,6 @@ mod writing;
 pub use directory::read_directory;
 pub use fitting::is_writable;
 pub use head::frame;
-pub use outer::read_outer;
+pub use outer::{next_outer, read_outer};
 pub use segment::{segment_bytes, segment_range};
 pub use writing::write_unit;

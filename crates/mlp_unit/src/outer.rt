@@ -1,22 +1,22 @@
 //! Reading the outer part of an access unit.
 ghost use Rattle.std.specs.Option.{option_copied};
-ghost use Rattle.std.specs.Prelude.{◌≡◌, ◌≤◌, ◌+◌, ◌*◌, ◌/◌, ◌%◌, ◌&&◌, IsTrue, true, [], nat_le, is_some, Some, None, MatchResult, IfOk, IfSome, length, Ok, Err, drop};
+ghost use Rattle.std.specs.Prelude.{◌≡◌, ◌≤◌, ◌+◌, ◌*◌, ◌/◌, ◌%◌, ◌&&◌, IsTrue, true, [], nat_le, is_some, Some, None, MatchResult, IfOk, IfSome, length, Ok, Err, take, drop};
 ghost use Rattle.mlp_bits.specs.Bits.{bits_of};
 ghost use Rattle.mlp_layout.specs.Reading.{Gives};
 ghost use Rattle.mlp_layout.specs.Layout.{next_is};
 ghost use Rattle.mlp_layout.specs.Combined.{first_fault, present};
 ghost use Rattle.mlp_major.specs.MajorSync.{major_sync, sync, IsUsable};
-ghost use Rattle.mlp_unit.specs.AccessUnit.{in_force, stream_kind, substreams_of, major_size, behind_sync, parts, rules, access_unit};
+ghost use Rattle.mlp_unit.specs.AccessUnit.{head as head_layout, in_force, stream_kind, substreams_of, major_size, behind_sync, parts, rules};
 ghost use Rattle.mlp_unit.specs.Frame.{frame_of};
-ghost use Rattle.mlp_unit.specs.Shape.{unit_of, unit_with, body_place, HoldsSegments};
+ghost use Rattle.mlp_unit.specs.Shape.{unit_of, unit_with, body_place, HasCount, HoldsSegments, GivesOuter, GivesNext};
 
 use crate::directory::read_entries;
-use crate::head::read_head;
+use crate::head::{first_head, framed_head};
 use crate::rules::{first_bad_end, first_extra_word, first_restart_flag};
 use arrayvec::ArrayVec;
 use mlp_bits::{BitReader, nibble_parity};
 use mlp_layout::broken;
-use mlp_major::read_sync;
+use mlp_major::{SYNC, read_sync};
 use mlp_syntax::{Broken, DirEntry, Field, FormatInfo, Kind, MajorSync, Outer, UnitHead};
 
 /// The stream's first major sync, which may be this unit's.
@@ -54,7 +54,7 @@ fn has_sync(unit: &[u8]) -> bool
     let Ok(bits) = r.take(31) else {
         return false;
     };
-    bits == 0x7C3937DD
+    bits == SYNC
 }
 
 /// Reads the major sync, which is there, into `major`. It is kept out of the way of the units without one.
@@ -171,25 +171,22 @@ fn check_directory(
     Ok(())
 }
 
-/// The outer part of an access unit, or the first rule that fails: of the major sync, where one is there, and then of the
-/// directory. `first` is the stream's first major sync, and `None` for the first unit.
-///
-/// `frame` gave exactly this length.
-#[inline(never)]
-pub fn read_outer(unit: &[u8], first: Option<&MajorSync>) -> Result<Outer, Broken>
+/// The outer part of a unit with this head, which was read from its first bytes.
+#[inline(always)]
+fn read_framed(unit: &[u8], head: UnitHead, first: Option<&MajorSync>) -> Result<Outer, Broken>
     requires framed { frame_of unit.now ≡ Ok (length unit.now) }
+    requires head { head_layout.read (bits_of unit.now) 0 ≡ Ok (head, 32) }
     requires few { substreams_of (option_copied first) ≤ 4 }
-    ensures read { MatchResult result (λ o. (access_unit (option_copied first.entry)).read (bits_of unit.now) 0 ≡ Ok (unit_with unit.now o, 8 * length unit.now))
-        (λ e. (access_unit (option_copied first.entry)).read (bits_of unit.now) 0 ≡ Err e) }
+    ensures read { GivesOuter (option_copied first.entry) unit.now result }
     ensures body { IfOk result (λ o. o.body ≡ body_place (unit_with unit.now o)) }
-    ensures count { IfOk result (λ o. length o.entries.items ≡ substreams_of (in_force (option_copied first.entry) o.major)) }
+    ensures count { IfOk result (HasCount (option_copied first.entry)) }
     ensures ends { IfOk result (HoldsSegments unit.now) }
     ensures usable { IfOk result (λ o. IfSome o.major IsUsable) }
 {
     let mut major: Option<MajorSync> = None;
     let mut entries: ArrayVec<DirEntry, 4> = ArrayVec::new();
     let mut r = BitReader::new(unit);
-    let head = read_head(&mut r)?;
+    r.skip(32);
     read_present(has_sync(unit), unit, first, &mut major, &mut r)?;
     read_behind_sync(unit, first, head, &major, &mut entries, &mut r)?;
     let body = r.place() / 8;
@@ -200,4 +197,47 @@ pub fn read_outer(unit: &[u8], first: Option<&MajorSync>) -> Result<Outer, Broke
         entries,
         body,
     })
+}
+
+/// The outer part of an access unit. `first` is the stream's first major sync, and `None` for the first unit.
+///
+/// `frame` gave exactly this length.
+///
+/// # Errors
+///
+/// The first rule that fails: of the head, of the major sync, where one is there, and then of the directory.
+#[inline(never)]
+pub fn read_outer(unit: &[u8], first: Option<&MajorSync>) -> Result<Outer, Broken>
+    requires framed { frame_of unit.now ≡ Ok (length unit.now) }
+    requires few { substreams_of (option_copied first) ≤ 4 }
+    ensures read { GivesOuter (option_copied first.entry) unit.now result }
+    ensures body { IfOk result (λ o. o.body ≡ body_place (unit_with unit.now o)) }
+    ensures count { IfOk result (HasCount (option_copied first.entry)) }
+    ensures ends { IfOk result (HoldsSegments unit.now) }
+    ensures usable { IfOk result (λ o. IfSome o.major IsUsable) }
+{
+    let head = first_head(unit)?;
+    read_framed(unit, head, first)
+}
+
+/// The next unit's length in bytes, and its outer part: what `frame` and `read_outer` say, with the head read once. `next`
+/// is the rest of a stream or at least its first 8190 bytes.
+///
+/// # Errors
+///
+/// Those of `frame`, and then those of `read_outer`.
+#[inline(never)]
+pub fn next_outer(next: &[u8], first: Option<&MajorSync>) -> Result<(usize, Outer), Broken>
+    requires few { substreams_of (option_copied first) ≤ 4 }
+    ensures read { GivesNext (option_copied first.entry) next.now result }
+    ensures frame { IfOk result (λ x. frame_of next.now ≡ Ok x.0) }
+    ensures body { IfOk result (λ x. x.1.body ≡ body_place (unit_with (take x.0 next.now) x.1)) }
+    ensures count { IfOk result (λ x. HasCount (option_copied first.entry) x.1) }
+    ensures ends { IfOk result (λ x. HoldsSegments (take x.0 next.now) x.1) }
+    ensures usable { IfOk result (λ x. IfSome x.1.major IsUsable) }
+{
+    let head = framed_head(next)?;
+    let size = 2 * usize::from(head.words);
+    let outer = read_framed(&next[..size], head, first)?;
+    Ok((size, outer))
 }

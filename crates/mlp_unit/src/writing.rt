@@ -1,14 +1,11 @@
 //! Writing an access unit.
 ghost use Rattle.std.specs.Option.{option_copied};
-ghost use Rattle.std.specs.Prelude.{◌≡◌, ◌≤◌, ◌<◌, ◌+◌, ◌*◌, ◌/◌, ◌%◌, ◌↔◌, ◌++◌, ℕ, List, Bool, Option, bit_xor, is_some, length, IsErr, OnErr, OnOk};
+ghost use Rattle.std.specs.Prelude.{◌≡◌, ◌≤◌, ◌<◌, ◌+◌, ◌*◌, ◌↔◌, ◌++◌, length, IsErr, OnErr, OnOk};
 ghost use Rattle.arrayvec.specs.ArrayVec.{array_vec_len};
 ghost use Rattle.mlp_bits.specs.Bits.{bits, bits_of};
-ghost use Rattle.mlp_layout.specs.Layout.{number_of};
-ghost use Rattle.mlp_layout.specs.Combined.{present};
-ghost use Rattle.mlp_syntax.specs.declared.major.MajorSync.{MajorSync};
-ghost use Rattle.mlp_unit.specs.Directory.{entry as entry_layout, entry_size, directory, directory_size};
-ghost use Rattle.mlp_unit.specs.AccessUnit.{access_unit, in_force, substreams_of, major_size, half_byte_sum, parity_of};
-ghost use Rattle.mlp_unit.specs.Written.{MajorFits, Writable, major_text, unit_size, written_unit};
+ghost use Rattle.mlp_unit.specs.Directory.{entry as entry_layout, entry_size, extra_bits, directory, directory_size};
+ghost use Rattle.mlp_unit.specs.AccessUnit.{major_size, SumIs, parity_of};
+ghost use Rattle.mlp_unit.specs.Written.{MajorFits, Writable, SpellsUnit, major_text, unit_size, written_unit};
 
 use mlp_major::write_major;
 use mlp_syntax::{DirEntry, MajorSync, UnitBytes, UnitTooLong};
@@ -16,7 +13,7 @@ use mlp_syntax::{DirEntry, MajorSync, UnitBytes, UnitTooLong};
 /// The first word of an entry.
 pub fn entry_word(entry: &DirEntry) -> u16
     requires { entry.now.end < 4096 }
-    ensures { entry_layout.spelling entry.now ≡ bits 16 result ++ (present (is_some entry.now.extra) (number_of 16)).spelling entry.now.extra }
+    ensures { entry_layout.spelling entry.now ≡ bits 16 result ++ extra_bits entry.now.extra }
 {
     let extra = u16::from(entry.extra.is_some());
     let restart_absent = u16::from(entry.restart_absent);
@@ -27,7 +24,7 @@ pub fn entry_word(entry: &DirEntry) -> u16
 
 /// The sum of the four half bytes of a word, without carries.
 fn nibbles(word: u16) -> u8
-    ensures sum { (rest : List Bool) → half_byte_sum (bits 16 word ++ rest) ≡ bit_xor result (half_byte_sum rest) }
+    ensures sum { SumIs (bits 16 word) result }
     ensures small { result < 16 }
 {
     let high = (word / 256) as u8;
@@ -38,7 +35,7 @@ fn nibbles(word: u16) -> u8
 /// The sum of the half bytes of an entry and its extra word, without carries.
 fn entry_nibbles(entry: &DirEntry) -> u8
     requires { entry.now.end < 4096 }
-    ensures sum { (rest : List Bool) → half_byte_sum (entry_layout.spelling entry.now ++ rest) ≡ bit_xor result (half_byte_sum rest) }
+    ensures sum { SumIs (entry_layout.spelling entry.now) result }
     ensures small { result < 16 }
 {
     let sum = nibbles(entry_word(entry));
@@ -139,7 +136,9 @@ fn directory_length(entries: &[DirEntry]) -> usize
 
 /// Replaces `out` by the one spelling of an access unit: its length, check nibble and the major sync's check are made.
 ///
-/// `UnitTooLong` comes exactly where the unit would pass 8190 bytes; then `out` is unchanged.
+/// # Errors
+///
+/// `UnitTooLong` exactly where the unit would pass 8190 bytes; then `out` is unchanged.
 pub fn write_unit(
     timing: u16,
     major: Option<&MajorSync>,
@@ -150,8 +149,7 @@ pub fn write_unit(
     requires { Writable (option_copied major) entries.now body.now }
     ensures too_long { IsErr result ↔ (8190 < unit_size (option_copied major.entry) entries.now body.now) }
     ensures kept { OnErr result (out.new ≡ out.old) }
-    ensures written { OnOk result ((first : Option MajorSync) → substreams_of (in_force first (option_copied major.entry)) ≡ length entries.now
-        → let u = written_unit timing (option_copied major.entry) entries.now body.now in (access_unit first).Fits u × (bits_of out.new.items ≡ (access_unit first).spelling u)) }
+    ensures written { OnOk result (SpellsUnit (written_unit timing (option_copied major.entry) entries.now body.now) out.new.items) }
 {
     let front = 4 + major_length(major) + directory_length(entries);
     if body.len() > 8190 - front {

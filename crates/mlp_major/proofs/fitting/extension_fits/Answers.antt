@@ -13,4 +13,5 @@ returns-then-is_empty c = empty_fits c.args.long c.is_empty-2.result c.args.byte
 pub returns : goal.returns
 returns c =
     let bytes = c.args.bytes.now in
-    subst (λ (half : ℕ). IsTrue (eqb (length bytes) (2 + 2 * half)) ↔ (extension c.args.long).Fits bytes) (sym c.from.ensures) (fits_with c.args.long c.is_empty-2.result bytes (λ i. omega (arith, c.type_inv.bytes i)) c.if-not-long.false c.if-is_empty.false c.is_empty-2.ensures)
+    subst (λ (half : ℕ). IsTrue (eqb (length bytes) (2 + 2 * half)) ↔ (extension c.args.long).Fits bytes) (sym c.from.ensures)
+    (fits_with c.args.long c.is_empty-2.result bytes (λ i. omega (arith, c.type_inv.bytes i)) c.if-not-long.false c.if-is_empty.false c.is_empty-2.ensures)

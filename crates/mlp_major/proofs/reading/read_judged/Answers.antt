@@ -9,10 +9,12 @@ returns-in_err-signed-clause-read c =
     rw (p.1, p.2) (judged_err (option_copied c.args.first) c.args.r.now.all c.args.r.now.place c.in_err-signed.field-0.0 c.in_err-signed.ensures)
 
 pub returns-then-signed-clause-read : goal.returns-then-signed-clause-read
-returns-then-signed-clause-read c = rw (c.broken.ensures, c.place-at.ensures.value) (judged_bad (option_copied c.args.first) c.args.r.now.all c.args.r.now.place c.in_ok-signed.signed c.read_checked.new.r.place c.in_ok-signed.ensures.0 c.if-signed.true)
+returns-then-signed-clause-read c = rw (c.broken.ensures, c.place-at.ensures.value)
+    (judged_bad (option_copied c.args.first) c.args.r.now.all c.args.r.now.place c.in_ok-signed.signed c.read_checked.new.r.place c.in_ok-signed.ensures.0 c.if-signed.true)
 
 pub returns-in-Err-clause-read : goal.returns-in-Err-clause-read
-returns-in-Err-clause-read c = rw (c.broken-in-Err.ensures, c.place-at.ensures.value) (judged_fails (option_copied c.args.first) c.args.r.now.all c.args.r.now.place c.in_ok-signed.signed c.read_checked.new.r.place c.in_ok-signed.ensures.0 c.in-Err.fault c.if-signed.false c.in-Err.ensures.rules)
+returns-in-Err-clause-read c = rw (c.broken-in-Err.ensures, c.place-at.ensures.value)
+    (judged_fails (option_copied c.args.first) c.args.r.now.all c.args.r.now.place c.in_ok-signed.signed c.read_checked.new.r.place c.in_ok-signed.ensures.0 c.in-Err.fault c.if-signed.false c.in-Err.ensures.rules)
 
 pub returns-clause-read : goal.returns-clause-read
 returns-clause-read c =

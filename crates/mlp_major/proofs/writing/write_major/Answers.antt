@@ -3,7 +3,7 @@ use Rattle.std.proofs.lemmas.List.{length-append}
 use Rattle.mlp_bits.specs.Bits.{bits_of}
 use Rattle.mlp_bits.proofs.BitLists.{length-bits_of}
 use Rattle.mlp_bits.proofs.Words.{bits_of-append}
-use Rattle.mlp_major.specs.MajorSync.{major_sync, checked_sync, signed}
+use Rattle.mlp_major.specs.MajorSync.{major_sync, checked_sync, with_signature}
 use Rattle.mlp_major.proofs.SyncWriting.{sync_text, sync_length, sync_has_fields}
 use Rattle.mlp_major.proofs.writing.write_major.Goals as goal
 
@@ -25,12 +25,19 @@ returns-in_default-clause-too_long c =
 pub bytes-requires : goal.bytes-requires
 bytes-requires c =
     let m = c.args.major.now in
-    omega (arith, ap (λ (t : List Bool). length t) c.in-Ok.ensures.ok.appended, ap (λ (t : List Bool). length t) (ap (λ (t : List Bool). t ++ checked_sync.spelling (signed m)) c.new-w.ensures), sync_length None m c.requires, ap (λ (t : List Bool). length t) (sync_text None m))
+    omega (
+      arith,
+      ap (λ (t : List Bool). length t) c.in-Ok.ensures.ok.appended,
+      ap (λ (t : List Bool). length t)
+          (ap (λ (t : List Bool). t ++ checked_sync.spelling (with_signature m)) c.new-w.ensures),
+      sync_length None m c.requires,
+      ap (λ (t : List Bool). length t) (sync_text None m),
+    )
 
 pub push_all-requires : goal.push_all-requires
 push_all-requires c =
     let m = c.args.major.now in
-    let text = checked_sync.spelling (signed m) in
+    let text = checked_sync.spelling (with_signature m) in
     let written : c.write_checked.new.w ≡ text = c.in-Ok.ensures.ok.appended ∙ ap (λ (t : List Bool). t ++ text) c.new-w.ensures in
     omega (arith, c.if-len-length-gt8190.false, length-bits_of c.bytes.result.now, ap (λ (t : List Bool). length t) (c.bytes.ensures ∙ written), sync_length None m c.requires, ap (λ (t : List Bool). length t) (sync_text None m))
 
@@ -44,6 +51,6 @@ pub returns-clause-appended : goal.returns-clause-appended
 returns-clause-appended c =
     let m = c.args.major.now in
     let out = c.args.out.now.items in
-    let text = checked_sync.spelling (signed m) in
+    let text = checked_sync.spelling (with_signature m) in
     let written : c.write_checked.new.w ≡ text = c.in-Ok.ensures.ok.appended ∙ ap (λ (t : List Bool). t ++ text) c.new-w.ensures in
     ap bits_of c.push_all.ensures ∙ bits_of-append out c.bytes.result.now ∙ ap (λ (t : List Bool). bits_of out ++ t) (c.bytes.ensures ∙ written ∙ sym (sync_text None m))

@@ -22,7 +22,8 @@ unfolding lone_directory
 returns-in_err-read_entries c =
     let p = err_from_is_err_and c.from_residual.result c.from_residual.ensures.1 in
     let bits = bits_of c.args.bytes.now in
-    let read : (directory c.args.substreams).read bits 0 ≡ Err c.in_err-read_entries.field-0.0 = subst (λ (r : Cursor). (directory c.args.substreams).read r.all r.place ≡ Err c.in_err-read_entries.field-0.0) c.new-r.ensures c.in_err-read_entries.ensures in
+    let read : (directory c.args.substreams).read bits 0 ≡ Err c.in_err-read_entries.field-0.0 =
+    subst (λ (r : Cursor). (directory c.args.substreams).read r.all r.place ≡ Err c.in_err-read_entries.field-0.0) c.new-r.ensures c.in_err-read_entries.ensures in
     rw (p.1, p.2) (under_err bits 0 (no_extra_word c.args.kind ∷ []) (directory c.args.substreams) c.in_err-read_entries.field-0.0 read)
 
 pub returns-in-Some : goal.returns-in-Some
@@ -30,17 +31,20 @@ unfolding lone_directory
 returns-in-Some c =
     let bits = bits_of c.args.bytes.now in
     let es = c.read_entries.new.entries.items in
-    let read : (directory c.args.substreams).read bits 0 ≡ Ok (es, c.read_entries.new.r.place) = subst (λ (r : Cursor). (directory c.args.substreams).read r.all r.place ≡ Ok (es, c.read_entries.new.r.place)) c.new-r.ensures c.in_ok-read_entries.ensures.0 in
+    let read : (directory c.args.substreams).read bits 0 ≡ Ok (es, c.read_entries.new.r.place) =
+    subst (λ (r : Cursor). (directory c.args.substreams).read r.all r.place ≡ Ok (es, c.read_entries.new.r.place)) c.new-r.ensures c.in_ok-read_entries.ensures.0 in
     let found : first_failing (may_stand c.args.kind) 0 es ≡ Some c.in-Some.place = sym (c.in-Some.ensures.first ∙ ap (first_failing (may_stand c.args.kind) 0) c.deref.ensures.0) in
     let bad : first_fault (no_extra_word c.args.kind ∷ []) es ≡ Some (rule.ExtraWord, c.in-Some.place) = rw found refl in
-    rw c.broken.ensures (under_fails bits 0 (no_extra_word c.args.kind ∷ []) (directory c.args.substreams) es c.read_entries.new.r.place rule.ExtraWord c.in-Some.place read bad ∙ ap extra_at (let z : 0 + c.in-Some.place ≡ c.in-Some.place = omega arith in z))
+    rw c.broken.ensures (under_fails bits 0 (no_extra_word c.args.kind ∷ []) (directory c.args.substreams) es c.read_entries.new.r.place rule.ExtraWord c.in-Some.place read bad
+    ∙ ap extra_at (let z : 0 + c.in-Some.place ≡ c.in-Some.place = omega arith in z))
 
 pub returns : goal.returns
 unfolding lone_directory
 returns c =
     let bits = bits_of c.args.bytes.now in
     let es = c.read_entries.new.entries.items in
-    let read : (directory c.args.substreams).read bits 0 ≡ Ok (es, c.read_entries.new.r.place) = subst (λ (r : Cursor). (directory c.args.substreams).read r.all r.place ≡ Ok (es, c.read_entries.new.r.place)) c.new-r.ensures c.in_ok-read_entries.ensures.0 in
+    let read : (directory c.args.substreams).read bits 0 ≡ Ok (es, c.read_entries.new.r.place) =
+    subst (λ (r : Cursor). (directory c.args.substreams).read r.all r.place ≡ Ok (es, c.read_entries.new.r.place)) c.new-r.ensures c.in_ok-read_entries.ensures.0 in
     let found : first_failing (may_stand c.args.kind) 0 es ≡ None = sym (c.in_default.ensures.first ∙ ap (first_failing (may_stand c.args.kind) 0) c.deref.ensures.0) in
     let ok : first_fault (no_extra_word c.args.kind ∷ []) es ≡ None = rw found refl in
     let ends = directory_ends c.args.substreams bits 0 es c.read_entries.new.r.place (omega arith) read in

@@ -19,7 +19,13 @@ loop-preserved c =
     let i = c.loop.invariant in
     let read = c.in_ok-next.ensures in
     let on = goes_on (whole rule.DirectoryShort entry) c.loop.entries.items c.args.count c.loop.counter c.loop.r.all c.loop.r.place c.read_entry.new.r.place c.in_ok-next.next _ c.loop-test.true read.0 i.so_far in
-    record { moved = omega (arith, i.moved, read.2); so_far = rw (c.push.ensures.items, read.1) on; same_bits = read.1 ∙ i.same_bits; count = rw c.push.ensures.items (omega (arith, length_push c.loop.entries.items c.in_ok-next.next, i.count)) }
+    record {
+      moved = omega (arith, i.moved, read.2);
+      so_far = rw (c.push.ensures.items, read.1) on;
+      same_bits = read.1 ∙ i.same_bits;
+      count =
+          rw c.push.ensures.items (omega (arith, length_push c.loop.entries.items c.in_ok-next.next, i.count));
+    }
 
 pub returns : goal.returns
 unfolding directory

@@ -41,8 +41,10 @@ returns-then-nibble_parity-ne15 c =
     let s = seen_parts (option_copied c.args.first) c.args.unit.now (as_outer c.args.head c.args.major.now c.args.entries.now c.args.body) (λ i. omega (arith, c.type_inv.unit i)) c.requires.read c.requires.body in
     let first = option_copied c.args.first in
     let kind = c.stream_kind-kind.ensures ∙ ap stream_kind c.in_force.ensures in
-    let extra = extra_is c.args.unit.now (as_outer c.args.head c.args.major.now c.args.entries.now c.args.body) c.directory_start-start.result c.directory_start-start.ensures c.args.entries.now refl first c.stream_kind-kind.result None kind c.in_default.ensures.first in
-    let parity : c.nibble_parity.result ≡ parity_of c.args.head c.args.entries.now = c.nibble_parity.ensures ∙ ap (λ (n : ℕ). nibble_parity_of (take 4 c.args.unit.now ++ take (c.args.body - n) (drop n c.args.unit.now))) c.directory_start-start.ensures ∙ sym s.parity in
+    let extra = extra_is c.args.unit.now
+    (as_outer c.args.head c.args.major.now c.args.entries.now c.args.body) c.directory_start-start.result c.directory_start-start.ensures c.args.entries.now refl first c.stream_kind-kind.result None kind c.in_default.ensures.first in
+    let parity : c.nibble_parity.result ≡ parity_of c.args.head c.args.entries.now = c.nibble_parity.ensures
+    ∙ ap (λ (n : ℕ). nibble_parity_of (take 4 c.args.unit.now ++ take (c.args.body - n) (drop n c.args.unit.now))) c.directory_start-start.ensures ∙ sym s.parity in
     let differs : eqb c.nibble_parity.result 15 ≡ false = ne_eqb c.nibble_parity.result 15 c.if-nibble_parity-ne15.true in
     rw c.broken-then-nibble_parity-ne15.ensures (faults_are first (unit_of c.args.unit.now c.args.head c.args.major.now c.args.entries.now c.args.body) None c.nibble_parity.result _ _ extra parity refl refl ∙ rw differs refl)
 
@@ -61,10 +63,14 @@ returns-in-Some-first_restart_flag c =
     let s = seen_parts (option_copied c.args.first) c.args.unit.now (as_outer c.args.head c.args.major.now c.args.entries.now c.args.body) (λ i. omega (arith, c.type_inv.unit i)) c.requires.read c.requires.body in
     let first = option_copied c.args.first in
     let kind = c.stream_kind-kind.ensures ∙ ap stream_kind c.in_force.ensures in
-    let extra = extra_is c.args.unit.now (as_outer c.args.head c.args.major.now c.args.entries.now c.args.body) c.directory_start-start.result c.directory_start-start.ensures c.args.entries.now refl first c.stream_kind-kind.result None kind c.in_default.ensures.first in
-    let parity : c.nibble_parity.result ≡ parity_of c.args.head c.args.entries.now = c.nibble_parity.ensures ∙ ap (λ (n : ℕ). nibble_parity_of (take 4 c.args.unit.now ++ take (c.args.body - n) (drop n c.args.unit.now))) c.directory_start-start.ensures ∙ sym s.parity in
-    let flag = flag_is c.args.unit.now (as_outer c.args.head c.args.major.now c.args.entries.now c.args.body) c.directory_start-start.result c.directory_start-start.ensures c.args.entries.now refl c.is_some.result (Some c.in-Some-first_restart_flag.place) c.is_some.ensures c.in-Some-first_restart_flag.ensures.first in
-    rw c.broken-in-Some-first_restart_flag.ensures (faults_are first (unit_of c.args.unit.now c.args.head c.args.major.now c.args.entries.now c.args.body) None c.nibble_parity.result (Some c.in-Some-first_restart_flag.place) _ extra parity flag refl ∙ rw c.if-nibble_parity-ne15.false refl)
+    let extra = extra_is c.args.unit.now
+    (as_outer c.args.head c.args.major.now c.args.entries.now c.args.body) c.directory_start-start.result c.directory_start-start.ensures c.args.entries.now refl first c.stream_kind-kind.result None kind c.in_default.ensures.first in
+    let parity : c.nibble_parity.result ≡ parity_of c.args.head c.args.entries.now = c.nibble_parity.ensures
+    ∙ ap (λ (n : ℕ). nibble_parity_of (take 4 c.args.unit.now ++ take (c.args.body - n) (drop n c.args.unit.now))) c.directory_start-start.ensures ∙ sym s.parity in
+    let flag = flag_is c.args.unit.now (as_outer c.args.head c.args.major.now c.args.entries.now c.args.body) c.directory_start-start.result c.directory_start-start.ensures c.args.entries.now refl c.is_some.result
+    (Some c.in-Some-first_restart_flag.place) c.is_some.ensures c.in-Some-first_restart_flag.ensures.first in
+    rw c.broken-in-Some-first_restart_flag.ensures (faults_are first (unit_of c.args.unit.now c.args.head c.args.major.now c.args.entries.now c.args.body) None c.nibble_parity.result
+    (Some c.in-Some-first_restart_flag.place) _ extra parity flag refl ∙ rw c.if-nibble_parity-ne15.false refl)
 
 pub overflow_sub-last : goal.overflow_sub-last
 overflow_sub-last c =
@@ -86,19 +92,28 @@ returns-in-Some-first_bad_end c =
     let s = seen_parts (option_copied c.args.first) c.args.unit.now (as_outer c.args.head c.args.major.now c.args.entries.now c.args.body) (λ i. omega (arith, c.type_inv.unit i)) c.requires.read c.requires.body in
     let first = option_copied c.args.first in
     let kind = c.stream_kind-kind.ensures ∙ ap stream_kind c.in_force.ensures in
-    let extra = extra_is c.args.unit.now (as_outer c.args.head c.args.major.now c.args.entries.now c.args.body) c.directory_start-start.result c.directory_start-start.ensures c.args.entries.now refl first c.stream_kind-kind.result None kind c.in_default.ensures.first in
-    let parity : c.nibble_parity.result ≡ parity_of c.args.head c.args.entries.now = c.nibble_parity.ensures ∙ ap (λ (n : ℕ). nibble_parity_of (take 4 c.args.unit.now ++ take (c.args.body - n) (drop n c.args.unit.now))) c.directory_start-start.ensures ∙ sym s.parity in
-    let flag = flag_is c.args.unit.now (as_outer c.args.head c.args.major.now c.args.entries.now c.args.body) c.directory_start-start.result c.directory_start-start.ensures c.args.entries.now refl c.is_some.result None c.is_some.ensures c.in_default-first_restart_flag.ensures.first in
-    let end = end_is c.args.unit.now (as_outer c.args.head c.args.major.now c.args.entries.now c.args.body) c.directory_start-start.result c.directory_start-start.ensures c.args.entries.now refl (Some c.in-Some-first_bad_end.place) c.in-Some-first_bad_end.ensures.first in
-    rw c.broken-in-Some-first_bad_end.ensures (faults_are first (unit_of c.args.unit.now c.args.head c.args.major.now c.args.entries.now c.args.body) None c.nibble_parity.result None (Some c.in-Some-first_bad_end.place) extra parity flag end ∙ rw c.if-nibble_parity-ne15.false refl)
+    let extra = extra_is c.args.unit.now
+    (as_outer c.args.head c.args.major.now c.args.entries.now c.args.body) c.directory_start-start.result c.directory_start-start.ensures c.args.entries.now refl first c.stream_kind-kind.result None kind c.in_default.ensures.first in
+    let parity : c.nibble_parity.result ≡ parity_of c.args.head c.args.entries.now = c.nibble_parity.ensures
+    ∙ ap (λ (n : ℕ). nibble_parity_of (take 4 c.args.unit.now ++ take (c.args.body - n) (drop n c.args.unit.now))) c.directory_start-start.ensures ∙ sym s.parity in
+    let flag = flag_is c.args.unit.now
+    (as_outer c.args.head c.args.major.now c.args.entries.now c.args.body) c.directory_start-start.result c.directory_start-start.ensures c.args.entries.now refl c.is_some.result None c.is_some.ensures c.in_default-first_restart_flag.ensures.first in
+    let end = end_is c.args.unit.now (as_outer c.args.head c.args.major.now c.args.entries.now c.args.body) c.directory_start-start.result c.directory_start-start.ensures c.args.entries.now refl
+    (Some c.in-Some-first_bad_end.place) c.in-Some-first_bad_end.ensures.first in
+    rw c.broken-in-Some-first_bad_end.ensures (faults_are first (unit_of c.args.unit.now c.args.head c.args.major.now c.args.entries.now c.args.body) None c.nibble_parity.result None
+    (Some c.in-Some-first_bad_end.place) extra parity flag end ∙ rw c.if-nibble_parity-ne15.false refl)
 
 pub returns : goal.returns
 returns c =
     let s = seen_parts (option_copied c.args.first) c.args.unit.now (as_outer c.args.head c.args.major.now c.args.entries.now c.args.body) (λ i. omega (arith, c.type_inv.unit i)) c.requires.read c.requires.body in
     let first = option_copied c.args.first in
     let kind = c.stream_kind-kind.ensures ∙ ap stream_kind c.in_force.ensures in
-    let extra = extra_is c.args.unit.now (as_outer c.args.head c.args.major.now c.args.entries.now c.args.body) c.directory_start-start.result c.directory_start-start.ensures c.args.entries.now refl first c.stream_kind-kind.result None kind c.in_default.ensures.first in
-    let parity : c.nibble_parity.result ≡ parity_of c.args.head c.args.entries.now = c.nibble_parity.ensures ∙ ap (λ (n : ℕ). nibble_parity_of (take 4 c.args.unit.now ++ take (c.args.body - n) (drop n c.args.unit.now))) c.directory_start-start.ensures ∙ sym s.parity in
-    let flag = flag_is c.args.unit.now (as_outer c.args.head c.args.major.now c.args.entries.now c.args.body) c.directory_start-start.result c.directory_start-start.ensures c.args.entries.now refl c.is_some.result None c.is_some.ensures c.in_default-first_restart_flag.ensures.first in
-    let end = end_is c.args.unit.now (as_outer c.args.head c.args.major.now c.args.entries.now c.args.body) c.directory_start-start.result c.directory_start-start.ensures c.args.entries.now refl None c.in_default-first_bad_end.ensures.first in
+    let extra = extra_is c.args.unit.now
+    (as_outer c.args.head c.args.major.now c.args.entries.now c.args.body) c.directory_start-start.result c.directory_start-start.ensures c.args.entries.now refl first c.stream_kind-kind.result None kind c.in_default.ensures.first in
+    let parity : c.nibble_parity.result ≡ parity_of c.args.head c.args.entries.now = c.nibble_parity.ensures
+    ∙ ap (λ (n : ℕ). nibble_parity_of (take 4 c.args.unit.now ++ take (c.args.body - n) (drop n c.args.unit.now))) c.directory_start-start.ensures ∙ sym s.parity in
+    let flag = flag_is c.args.unit.now
+    (as_outer c.args.head c.args.major.now c.args.entries.now c.args.body) c.directory_start-start.result c.directory_start-start.ensures c.args.entries.now refl c.is_some.result None c.is_some.ensures c.in_default-first_restart_flag.ensures.first in
+    let end = end_is c.args.unit.now
+    (as_outer c.args.head c.args.major.now c.args.entries.now c.args.body) c.directory_start-start.result c.directory_start-start.ensures c.args.entries.now refl None c.in_default-first_bad_end.ensures.first in
     faults_are first (unit_of c.args.unit.now c.args.head c.args.major.now c.args.entries.now c.args.body) None c.nibble_parity.result None None extra parity flag end ∙ rw c.if-nibble_parity-ne15.false refl

@@ -22,9 +22,12 @@ pub returns-clause-read : goal.returns-clause-read
 returns-clause-read c =
     let sync : in_force (option_copied c.args.first) c.args.major.now ≡ Some c.in-Some.sync.now = sym c.in-Some.ensures in
     let there : is_some (in_force (option_copied c.args.first) c.args.major.now) ≡ true = ap is_some sync in
-    (behind_ok (option_copied c.args.first) c.args.head c.args.major.now c.args.unit.now c.args.r.now c.requires.same c.requires.place (omega (arith, c.in_ok-read_entries.ensures.2, c.place-body.ensures.within, ap length c.in_ok-read_entries.ensures.1)) c.requires.size (λ i. omega (arith, c.type_inv.unit i)) c.read_entries.new.entries.items c.read_entries.new.r there (rw sync c.in_ok-read_entries.ensures.0))
+    (behind_ok (option_copied c.args.first) c.args.head c.args.major.now c.args.unit.now c.args.r.now c.requires.same c.requires.place
+    (omega (arith, c.in_ok-read_entries.ensures.2, c.place-body.ensures.within, ap length c.in_ok-read_entries.ensures.1)) c.requires.size
+    (λ i. omega (arith, c.type_inv.unit i)) c.read_entries.new.entries.items c.read_entries.new.r there (rw sync c.in_ok-read_entries.ensures.0))
 
 pub returns-clause-body : goal.returns-clause-body
 returns-clause-body c =
     let e = c.in_ok-read_entries.ensures in
-    body_at (option_copied c.args.first) c.args.head c.args.major.now c.args.unit.now c.args.r.now c.requires.same c.requires.place (omega (arith, e.2, c.place-body.ensures.within, ap length e.1)) c.requires.size (λ i. omega (arith, c.type_inv.unit i)) _ c.read_entries.new.entries.items c.read_entries.new.r e.0
+    body_at (option_copied c.args.first) c.args.head c.args.major.now c.args.unit.now c.args.r.now c.requires.same c.requires.place
+    (omega (arith, e.2, c.place-body.ensures.within, ap length e.1)) c.requires.size (λ i. omega (arith, c.type_inv.unit i)) _ c.read_entries.new.entries.items c.read_entries.new.r e.0

@@ -12,7 +12,8 @@ returns-in-None-clause-sum c =
 pub returns-in-Some-clause-sum : goal.returns-in-Some-clause-sum
 returns-in-Some-clause-sum c =
     let e = c.args.entry.now in
-    sum_as (entry.spelling e) _ _ (text_some e c.entry_word.result c.entry_word.ensures c.in-Some.extra c.in-Some.is) (sum_both (bits 16 c.entry_word.result) (bits 16 c.in-Some.extra) c.nibbles-sum.result c.nibbles.result c.nibbles-sum.ensures.sum c.nibbles.ensures.sum)
+    sum_as (entry.spelling e) _ _ (text_some e c.entry_word.result c.entry_word.ensures c.in-Some.extra c.in-Some.is)
+    (sum_both (bits 16 c.entry_word.result) (bits 16 c.in-Some.extra) c.nibbles-sum.result c.nibbles.result c.nibbles-sum.ensures.sum c.nibbles.ensures.sum)
 
 pub returns-in-Some-clause-small : goal.returns-in-Some-clause-small
 returns-in-Some-clause-small c = xor_lt 4 c.nibbles-sum.result c.nibbles.result c.nibbles-sum.ensures.small c.nibbles.ensures.small

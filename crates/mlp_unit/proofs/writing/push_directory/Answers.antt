@@ -16,7 +16,8 @@ loop-entry-preserved c =
     let old = bits_of c.loop-entry.out.items in
     let e = get_or es n no_entry in
     record {
-      so_far = ap (λ (t : List Bool). t ++ entries_left es (n + 1)) c.push_entry.ensures.bits ∙ append_assoc old (entry.spelling e) (entries_left es (n + 1)) ∙ ap (λ (t : List Bool). old ++ t) (sym (entries_go_on es n no_entry c.loop-entry-test.true)) ∙ i.so_far;
+      so_far = ap (λ (t : List Bool). t ++ entries_left es (n + 1)) c.push_entry.ensures.bits ∙ append_assoc old (entry.spelling e) (entries_left es (n + 1))
+          ∙ ap (λ (t : List Bool). old ++ t) (sym (entries_go_on es n no_entry c.loop-entry-test.true)) ∙ i.so_far;
       fits = (entries_fit es n no_entry c.loop-entry-test.true i.fits).1;
       size = omega (arith, c.push_entry.ensures.len, sizes_go_on es n no_entry c.loop-entry-test.true, i.size);
     }

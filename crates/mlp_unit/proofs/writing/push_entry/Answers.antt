@@ -9,7 +9,8 @@ returns-in-Some-clause-bits c =
     let old = bits_of c.args.out.now.items in
     let word = bits 16 c.entry_word.result in
     let extra = bits 16 c.in-Some.extra in
-    c.push_word-in-Some.ensures.bits ∙ ap (λ (t : List Bool). t ++ extra) c.push_word.ensures.bits ∙ append_assoc old word extra ∙ ap (λ (t : List Bool). old ++ t) (sym (text_some e c.entry_word.result c.entry_word.ensures c.in-Some.extra c.in-Some.is))
+    c.push_word-in-Some.ensures.bits ∙ ap (λ (t : List Bool). t ++ extra) c.push_word.ensures.bits ∙ append_assoc old word extra
+    ∙ ap (λ (t : List Bool). old ++ t) (sym (text_some e c.entry_word.result c.entry_word.ensures c.in-Some.extra c.in-Some.is))
 
 pub returns-in_default-clause-bits : goal.returns-in_default-clause-bits
 returns-in_default-clause-bits c =

@@ -23,7 +23,16 @@ returns-in-Some-clause-bits c =
     let fits : (major_sync None).Fits m = subst MajorFits is c.requires.fits in
     let room = c.requires.room in
     let size : major_size (option_copied c.args.major) ≡ 28 + length m.extension.items = ap major_size is in
-    let ok = on_ok c.write_major-too_long.result _ (λ err. omega (arith, c.write_major-too_long.ensures.too_long.0 err, length-append (bits_of out) ((major_sync None).spelling m), length-bits_of out, sync_length None m fits, room, size)) c.write_major-too_long.ensures.appended in
+    let ok = on_ok c.write_major-too_long.result _ (λ err. omega (
+      arith,
+      c.write_major-too_long.ensures.too_long.0 err,
+      length-append (bits_of out)
+          ((major_sync None).spelling m),
+      length-bits_of out,
+      sync_length None m fits,
+      room,
+      size,
+    )) c.write_major-too_long.ensures.appended in
     ok ∙ ap (λ (o : Option MajorSync). bits_of out ++ major_text o) (sym is)
 
 pub returns-in-Some-clause-len : goal.returns-in-Some-clause-len
@@ -33,5 +42,14 @@ returns-in-Some-clause-len c =
     let is : option_copied c.args.major ≡ Some m = ap option_copied c.in-Some.is in
     let fits : (major_sync None).Fits m = subst MajorFits is c.requires.fits in
     let size : major_size (option_copied c.args.major) ≡ 28 + length m.extension.items = ap major_size is in
-    let ok = on_ok c.write_major-too_long.result _ (λ err. omega (arith, c.write_major-too_long.ensures.too_long.0 err, length-append (bits_of out) ((major_sync None).spelling m), length-bits_of out, sync_length None m fits, c.requires.room, size)) c.write_major-too_long.ensures.appended in
+    let ok = on_ok c.write_major-too_long.result _ (λ err. omega (
+      arith,
+      c.write_major-too_long.ensures.too_long.0 err,
+      length-append (bits_of out)
+          ((major_sync None).spelling m),
+      length-bits_of out,
+      sync_length None m fits,
+      c.requires.room,
+      size,
+    )) c.write_major-too_long.ensures.appended in
     omega (arith, ap (λ (t : List Bool). length t) ok, length-append (bits_of out) ((major_sync None).spelling m), length-bits_of out, length-bits_of c.write_major-too_long.new.out.items, sync_length None m fits, size)
