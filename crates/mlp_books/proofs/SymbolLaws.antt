@@ -1,5 +1,5 @@
 -- Symbols are read as their codes stand.
-use Rattle.std.proofs.Common.{◌≡◌, ℕ, zero, suc, ◌+◌, ◌*◌, ◌/◌, ◌%◌, ◌^◌, ◌<◌, ◌≤◌, Bool, true, false, eqb, leb, List, [], ◌∷◌, ◌++◌, length, take, drop, replicate, Ok, Err, Option, Some, None, refl, sym, ap, subst, ◌∙◌, arith, ◌⊎◌, inl, inr}
+use Rattle.std.proofs.Common.{◌≡◌, ◌≢◌, ℕ, zero, suc, ◌+◌, ◌*◌, ◌/◌, ◌%◌, ◌^◌, ◌<◌, ◌≤◌, Bool, true, false, eqb, leb, List, [], ◌∷◌, ◌++◌, length, take, drop, replicate, Ok, Err, Option, Some, None, refl, sym, ap, subst, ◌∙◌, arith, ◌⊎◌, inl, inr}
 use Rattle.std.proofs.lemmas.List.{length-append, length-take, length-drop, length-replicate}
 use Rattle.std.proofs.lemmas.Bool.{cases_lt, le-leb, leb-true, lt-leb, eqb-true}
 use Rattle.mlp_syntax.specs.declared.fault.Field.TheVariants as rule
@@ -15,7 +15,7 @@ use Rattle.mlp_layout.specs.Layout.{Sound, IsLayout, made}
 use Rattle.mlp_bits.proofs.Peeking.{peeked-whole}
 use Rattle.mlp_layout.proofs.LayoutLaws.{made_is}
 use Rattle.mlp_books.specs.BookFacts.{counted1, counted2, counted3, passes1, passes2, passes3}
-use Rattle.mlp_books.specs.Books.{book1, book2, book3, code_of, begins, find_symbol, IsNone, IsBook, NoCode, IsCut, symbol_or_fault, symbol_of, symbol_in, entry, entry_of, meaning, meaning_of, meaning_in, longest_in}
+use Rattle.mlp_books.specs.Books.{book1, book2, book3, code_of, begins, find_symbol, IsNone, IsBook, NoCode, IsCut, symbol_or_fault, symbol_of, symbol_in, meaning, meaning_of, meaning_in, longest_in}
 use Rattle.mlp_books.proofs.BookLaws.{begins-within, begins-take, begins-front, begins-cut, begins-uncut, begins-more, begins-less, find-none, none-begins, At, find-at, only-one, at-find, book_is}
 
 -- ---- a code stands where the text begins with it
@@ -150,31 +150,30 @@ nine-is c =
     let len : length text ≡ 9 = omega (arith, length-take 9 (left c ++ replicate 9 false), length-append (left c) (replicate 9 false), length-replicate 9 false) in
     sym (ap (λ (w : ℕ). bits w (number text)) len) ∙ bits-number text
 
--- what an entry says of the nine bits
+-- what a meaning says of the nine bits
 record Nine (book : List (List Bool)) (c : Cursor) (e : ℕ) : Type 0 where
-  none : e % 16 ≡ 0 → find_symbol book 0 (nine_of c) ≡ None
-  some : 0 < e % 16 → At book (nine_of c) (e / 16) × (e % 16 ≡ length (code_of book (e / 16)))
-  few : e % 16 ≤ 9
+  none : e ≡ 65535 → find_symbol book 0 (nine_of c) ≡ None
+  some : e ≢ 65535 → At book (nine_of c) (e / 256) × (e % 256 ≡ length (code_of book (e / 256)))
+  few : e ≢ 65535 → e % 256 ≤ 9
 
-module _ {book : List (List Bool)} (is : IsBook book) (c : Cursor) (e : ℕ) (e-is : e ≡ entry_of book (bits 9 (peeked 9 c))) where
+module _ {book : List (List Bool)} (is : IsBook book) (c : Cursor) (e : ℕ) (e-is : e ≡ meaning_of book (bits 9 (peeked 9 c))) where
   nine_says : Nine book c e
-  nine_says = go (find_symbol book 0 (nine_of c)) refl (e-is ∙ ap (entry_of book) (nine-is c))
+  nine_says = go (find_symbol book 0 (nine_of c)) refl (e-is ∙ ap (meaning_of book) (nine-is c))
     where
-      go : (o : Option ℕ) → find_symbol book 0 (nine_of c) ≡ o → e ≡ entry book (find_symbol book 0 (nine_of c)) → Nine book c e
+      go : (o : Option ℕ) → find_symbol book 0 (nine_of c) ≡ o → e ≡ meaning book (find_symbol book 0 (nine_of c)) → Nine book c e
       go None f g =
-          let z : e ≡ 0 = g ∙ ap (entry book) f in
-          record { none = λ h. f; some = λ h. absurd (omega arith); few = omega arith }
+          let z : e ≡ 65535 = g ∙ ap (meaning book) f in
+          record { none = λ h. f; some = λ h. absurd (h z); few = λ h. absurd (h z) }
       go (Some s) f g =
-          let z : e ≡ 16 * s + length (code_of book s) = g ∙ ap (entry book) f in
+          let z : e ≡ 256 * s + length (code_of book s) = g ∙ ap (meaning book) f in
           let a = find-at book (nine_of c) s f in
-          let low = is.shortest s a.within in
           let high = is.longest s a.within in
-          let s-is : s ≡ e / 16 = omega arith in
-          let l-is : length (code_of book s) ≡ e % 16 = omega arith in
+          let s-is : s ≡ e / 256 = omega (arith, z, high) in
+          let l-is : length (code_of book s) ≡ e % 256 = omega (arith, z, high) in
           record {
-            none = λ h. absurd (omega arith);
+            none = λ h. absurd (omega (arith, h, z, high));
             some = λ h. (subst (At book (nine_of c)) s-is a, sym l-is ∙ ap (λ (i : ℕ). length (code_of book i)) s-is);
-            few = omega arith;
+            few = λ h. omega (arith, l-is, high);
           }
 
   no_symbol : find_symbol book 0 (nine_of c) ≡ None → find_symbol book 0 (left c) ≡ None
@@ -184,17 +183,17 @@ module _ {book : List (List Bool)} (is : IsBook book) (c : Cursor) (e : ℕ) (e-
       let not-begun = find-none book 0 (take 9 (left c ++ replicate 9 false)) i none lt in
       absurd cc)
 
-  pub reads_symbol : 0 < e % 16 → e % 16 ≤ length (left c) → ((symbol_of book).read c.all c.place ≡ Ok (e / 16, c.place + e % 16)) × (e / 16 < length book)
+  pub reads_symbol : e ≢ 65535 → e % 256 ≤ length (left c) → ((symbol_of book).read c.all c.place ≡ Ok (e / 256, c.place + e % 256)) × (e / 256 < length book)
   unfolding symbol_of nine_of
   reads_symbol some room =
       let a = nine_says.some some in
-      let here = begins-less (code_of book (e / 16)) (left c) (replicate 9 false) (omega (arith, a.1)) (begins-uncut 9 (code_of book (e / 16)) (left c ++ replicate 9 false) a.0.found) in
-      (rw (at-find book is (left c) (e / 16) (record { within = a.0.within; found = here }), a.1) refl, a.0.within)
+      let here = begins-less (code_of book (e / 256)) (left c) (replicate 9 false) (omega (arith, a.1)) (begins-uncut 9 (code_of book (e / 256)) (left c ++ replicate 9 false) a.0.found) in
+      (rw (at-find book is (left c) (e / 256) (record { within = a.0.within; found = here }), a.1) refl, a.0.within)
 
-  pub reads_none : e % 16 ≡ 0 → (f : Field) → (length (left c) < 9 → f ≡ rule.SegmentShort) → (9 ≤ length (left c) → f ≡ rule.Code) → (symbol_of book).read c.all c.place ≡ Err (broken f c.place)
+  pub reads_none : e ≡ 65535 → (f : Field) → (length (left c) < 9 → f ≡ rule.SegmentShort) → (9 ≤ length (left c) → f ≡ rule.Code) → (symbol_of book).read c.all c.place ≡ Err (broken f c.place)
   unfolding symbol_of
-  reads_none zero-is f short long =
-      let none = no_symbol (nine_says.none zero-is) in
+  reads_none none-is f short long =
+      let none = no_symbol (nine_says.none none-is) in
       elim (cases_lt (length (left c)) 9) [
         | inl lt ↦
             let room : leb (c.place + 9) (length c.all) ≡ false = lt-leb _ _ (omega (arith, length-drop c.place c.all)) in
@@ -204,21 +203,21 @@ module _ {book : List (List Bool)} (is : IsBook book) (c : Cursor) (e : ℕ) (e-
             rw (none, room, long le) refl
       ]
 
-  pub reads_cut : length (left c) < e % 16 → (symbol_of book).read c.all c.place ≡ Err (broken rule.SegmentShort c.place)
+  pub reads_cut : e ≢ 65535 → length (left c) < e % 256 → (symbol_of book).read c.all c.place ≡ Err (broken rule.SegmentShort c.place)
   unfolding symbol_of nine_of
-  reads_cut short =
-      let a = nine_says.some (omega arith) in
-      let few = nine_says.few in
+  reads_cut there short =
+      let a = nine_says.some there in
+      let few = nine_says.few there in
       let none : find_symbol book 0 (left c) ≡ None = none-begins book (left c) (λ i within h. other a.0 a.1 i within h) in
       let room : leb (c.place + 9) (length c.all) ≡ false = lt-leb _ _ (omega (arith, length-drop c.place c.all)) in
       rw (none, room) refl
     where
-      other : At book (take 9 (left c ++ replicate 9 false)) (e / 16) → e % 16 ≡ length (code_of book (e / 16)) → (i : ℕ) → i < length book → begins (code_of book i) (left c) ≡ true → ⊥
+      other : At book (take 9 (left c ++ replicate 9 false)) (e / 256) → e % 256 ≡ length (code_of book (e / 256)) → (i : ℕ) → i < length book → begins (code_of book i) (left c) ≡ true → ⊥
       other a l i within h =
           let begun = begins-cut 9 (code_of book i) (left c ++ replicate 9 false) (is.longest i within) (begins-more (code_of book i) (left c) (replicate 9 false) h) in
-          let same : i ≡ e / 16 = only-one book is _ i (e / 16) (record { within = within; found = begun }) a in
+          let same : i ≡ e / 256 = only-one book is _ i (e / 256) (record { within = within; found = begun }) a in
           let fits = begins-within (code_of book i) (left c) h in
-          let k : length (code_of book i) ≡ length (code_of book (e / 16)) = ap (λ (j : ℕ). length (code_of book j)) same in
+          let k : length (code_of book i) ≡ length (code_of book (e / 256)) = ap (λ (j : ℕ). length (code_of book j)) same in
           absurd (omega arith)
 
 -- ---- reading by nine bits that are there
@@ -236,8 +235,8 @@ module _ {book : List (List Bool)} (is : IsBook book) (most : length book ≤ 18
   room : 9 ≤ length (drop p all)
   room = omega (arith, length-drop p all)
 
-  by_peek : entry_of book (bits 9 k) ≡ entry_of book (bits 9 (peeked 9 cursor))
-  by_peek = ap (λ (j : ℕ). entry_of book (bits 9 j)) (k-is ∙ sym (peeked-whole 9 cursor room))
+  by_peek : n ≡ meaning_of book (bits 9 (peeked 9 cursor))
+  by_peek = n-is ∙ ap (λ (j : ℕ). meaning_of book (bits 9 j)) (k-is ∙ sym (peeked-whole 9 cursor room))
 
   record Said : Type 0 where
     some : n < 65535 → (symbol_of book).read all p ≡ Ok (n / 256, p + n % 256)
@@ -250,26 +249,21 @@ module _ {book : List (List Bool)} (is : IsBook book) (most : length book ≤ 18
       go : (o : Option ℕ) → find_symbol book 0 (bits 9 k) ≡ o → n ≡ meaning book (find_symbol book 0 (bits 9 k)) → Said
       go None f g =
           let z : n ≡ 65535 = g ∙ ap (meaning book) f in
-          let e : entry_of book (bits 9 k) ≡ 0 = ap (entry book) f in
           record {
             some = λ h. absurd (omega (arith, h, z));
-            none = λ h. reads_none is cursor (entry_of book (bits 9 k)) by_peek (omega (arith, e)) rule.Code (λ lt. absurd (omega (arith, lt, room))) (λ le. refl);
+            none = λ h. reads_none is cursor n by_peek z rule.Code (λ lt. absurd (omega (arith, lt, room))) (λ le. refl);
             few = λ h. absurd (omega (arith, h, z));
           }
       go (Some s) f g =
           let z : n ≡ 256 * s + length (code_of book s) = g ∙ ap (meaning book) f in
-          let e : entry_of book (bits 9 k) ≡ 16 * s + length (code_of book s) = ap (entry book) f in
           let a = find-at book (bits 9 k) s f in
-          let low = is.shortest s a.within in
           let high = is.longest s a.within in
           let small : s < 18 = omega (arith, a.within, most) in
-          let read = (reads_symbol is cursor (entry_of book (bits 9 k)) by_peek (omega (arith, e, low, high)) (omega (arith, e, low, high, room))).0 in
-          let symbol : entry_of book (bits 9 k) / 16 ≡ n / 256 = omega (arith, e, z, low, high, small) in
-          let width : entry_of book (bits 9 k) % 16 ≡ n % 256 = omega (arith, e, z, low, high, small) in
+          let there : n ≢ 65535 = λ e. absurd (omega (arith, e, z, high, small)) in
           record {
-            some = λ h. rw (← symbol, ← width) read;
+            some = λ h. (reads_symbol is cursor n by_peek there (omega (arith, z, high, room))).0;
             none = λ h. absurd (omega (arith, h, z, high, small));
-            few = λ h. omega (arith, z, high, small);
+            few = λ h. omega (arith, z, high);
           }
 
 -- the nine bits count where the book has codes

@@ -5,11 +5,10 @@ use Rattle.std.specs.List.{range_with_len}
 use Rattle.std.proofs.lemmas.List.{get_or-drop, get_or-take}
 use Rattle.std.proofs.lemmas.List.FromFn.{get_or-map-range_with_len}
 use Rattle.mlp_bits.specs.Bits.{bits, number}
-use Rattle.mlp_bits.proofs.Fields.{number-below}
 use Rattle.mlp_layout.specs.Layout.{made}
 use Rattle.mlp_books.specs.BookFacts.{counted1, counted2, counted3}
-use Rattle.mlp_books.specs.Books.{book1, book2, book3, code_of, entry_of, meaning_of, meaning_in, begins, find_symbol, symbol_of, symbol_in, Passes}
-use Rattle.mlp_books.specs.declared.tables.TheConstants.{PATTERNS1, PATTERNS2, PATTERNS3, WIDTHS0, WIDTHS1, WIDTHS2, WIDTHS3, MEANINGS, ENTRIES1, ENTRIES2, ENTRIES3}
+use Rattle.mlp_books.specs.Books.{book1, book2, book3, code_of, meaning_of, meaning_in, begins, find_symbol, symbol_of, symbol_in, Passes}
+use Rattle.mlp_books.specs.declared.tables.TheConstants.{PATTERNS1, PATTERNS2, PATTERNS3, WIDTHS0, WIDTHS1, WIDTHS2, WIDTHS3, MEANINGS}
 use Rattle.mlp_books.proofs.BookLaws.{book_is}
 
 at_place : (xs : List ℕ) (f : ℕ → ℕ) (n : ℕ) → xs ≡ map f (range_with_len 0 n) → (i : ℕ) → i < n → get_or xs i 0 ≡ f i
@@ -39,22 +38,7 @@ pub width3 : (s : ℕ) → s < 15 → get_or WIDTHS3 s 0 ≡ length (code_of boo
 unfolding book3 bits
 width3 = at_place WIDTHS3 (λ s. length (code_of book3 s)) 15 refl
 
-pub entry1 : (n : ℕ) → n < 512 → get_or ENTRIES1 n 0 ≡ entry_of book1 (bits 9 n)
-unfolding book1 bits find_symbol begins
-entry1 = at_place ENTRIES1 (λ n. entry_of book1 (bits 9 n)) 512 refl
-
-pub entry2 : (n : ℕ) → n < 512 → get_or ENTRIES2 n 0 ≡ entry_of book2 (bits 9 n)
-unfolding book2 bits find_symbol begins
-entry2 = at_place ENTRIES2 (λ n. entry_of book2 (bits 9 n)) 512 refl
-
-pub entry3 : (n : ℕ) → n < 512 → get_or ENTRIES3 n 0 ≡ entry_of book3 (bits 9 n)
-unfolding book3 bits find_symbol begins
-entry3 = at_place ENTRIES3 (λ n. entry_of book3 (bits 9 n)) 512 refl
-
--- what the writer asks of a code
-pub code_small : (book : List (List Bool)) (s : ℕ) → number (code_of book s) < 2 ^ length (code_of book s)
-code_small book s = number-below (code_of book s)
-
+-- a code has at most nine bits
 pub code_short : (book : List (List Bool)) → Passes book → (s : ℕ) → s < length book → length (code_of book s) ≤ 9
 code_short book p = (book_is p).longest
 
@@ -99,15 +83,15 @@ part_at f book e n h =
 meanings0 : (n : ℕ) → n < 512 → get_or MEANINGS (512 * 0 + n) 0 ≡ meaning_in 0 n
 meanings0 = part_at (λ n. 0) 0 refl
 
-meanings1 : (n : ℕ) → n < 512 → get_or MEANINGS (512 * 1 + n) 0 ≡ meaning_in 1 n
+pub meanings1 : (n : ℕ) → n < 512 → get_or MEANINGS (512 * 1 + n) 0 ≡ meaning_in 1 n
 unfolding book1 bits find_symbol begins
 meanings1 = part_at (λ n. meaning_of book1 (bits 9 n)) 1 refl
 
-meanings2 : (n : ℕ) → n < 512 → get_or MEANINGS (512 * 2 + n) 0 ≡ meaning_in 2 n
+pub meanings2 : (n : ℕ) → n < 512 → get_or MEANINGS (512 * 2 + n) 0 ≡ meaning_in 2 n
 unfolding book2 bits find_symbol begins
 meanings2 = part_at (λ n. meaning_of book2 (bits 9 n)) 2 refl
 
-meanings3 : (n : ℕ) → n < 512 → get_or MEANINGS (512 * 3 + n) 0 ≡ meaning_in 3 n
+pub meanings3 : (n : ℕ) → n < 512 → get_or MEANINGS (512 * 3 + n) 0 ≡ meaning_in 3 n
 unfolding book3 bits find_symbol begins
 meanings3 = part_at (λ n. meaning_of book3 (bits 9 n)) 3 refl
 

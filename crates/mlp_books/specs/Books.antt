@@ -102,14 +102,6 @@ GivesSymbol old new (Err field) read = (read ≡ Err (broken field old.place)) �
 
 -- ---- for reading by one look at nine bits
 
--- 16 times a symbol, plus the width of its code; 0 for none
-abbrev pub entry : List (List Bool) → Option ℕ → ℕ
-entry book None = 0
-entry book (Some s) = 16 * s + length (code_of book s)
-
-abbrev pub entry_of : List (List Bool) → List Bool → ℕ
-entry_of book text = entry book (find_symbol book 0 text)
-
 -- 256 times a symbol, plus the width of its code; 65535 for none
 abbrev pub meaning : List (List Bool) → Option ℕ → ℕ
 meaning book None = 65535

@@ -6,7 +6,7 @@ ghost use Rattle.mlp_layout.specs.Layout.{made, number_of};
 ghost use Rattle.mlp_layout.specs.Writing.{Writes};
 ghost use Rattle.mlp_books.specs.Books.{code_of, symbol_of, symbol_in, meaning_in, GivesSymbol};
 
-use crate::codebook::Codebook;
+use crate::codebook::{Codebook, NO_CODE};
 use crate::tables::{Book1, Book2, Book3, MEANINGS, WIDTHS0, WIDTHS1, WIDTHS2, WIDTHS3};
 use mlp_bits::{BitReader, BitWriter, Full};
 use mlp_layout::{broken, put_all, put_number};
@@ -14,24 +14,26 @@ use mlp_syntax::{Broken, Field};
 
 /// Reads a symbol by its code.
 ///
-/// Where the next nine bits are no code it is `Code`. Where the bits end before a code does, and fewer than nine are
-/// left, it is `SegmentShort`. Nothing is then taken.
+/// # Errors
+///
+/// `Code` where the next nine bits are no code, `SegmentShort` where the bits end before a code does and fewer than nine
+/// are left. Nothing is then taken.
 #[inline]
 pub fn read_symbol<B: Codebook>(r: &mut BitReader) -> Result<u32, Field>
     ensures read { GivesSymbol r.old r.new result ((symbol_of B.codes).read r.old.all r.old.place) }
     ensures bound { IfOk result (λ s. s < B.SYMBOLS) }
 {
-    let entry = B::entry(r.peek(9));
-    let width = entry % 16;
+    let meaning = B::meaning(r.peek(9));
     let left = r.left();
+    if meaning == NO_CODE {
+        return Err(no_code(left));
+    }
+    let width = u32::from(meaning % 256);
     if width > left {
         return Err(Field::SegmentShort);
     }
-    if width == 0 {
-        return Err(no_code(left));
-    }
     r.skip(width);
-    Ok(entry / 16)
+    Ok(u32::from(meaning / 256))
 }
 
 /// What is wrong where the bits that are left begin with no code.
@@ -46,7 +48,11 @@ fn no_code(left: u32) -> Field
     }
 }
 
-/// Reads a symbol by its code, with the place of a fault, which is the code's first bit.
+/// Reads a symbol by its code.
+///
+/// # Errors
+///
+/// Those of `read_symbol`, at the code's first bit.
 #[inline]
 pub fn symbol<B: Codebook>(r: &mut BitReader) -> Result<u32, Broken>
     ensures read { Gives (λ s. s) r.old r.new result ((symbol_of B.codes).read r.old.all r.old.place) }
@@ -59,7 +65,11 @@ pub fn symbol<B: Codebook>(r: &mut BitReader) -> Result<u32, Broken>
     }
 }
 
-/// Reads a symbol of the book with this number. Book 0 has the symbol 0 alone, which takes no bits.
+/// Reads a symbol of the book with this number, 0 to 3. Book 0 has the symbol 0 alone, which takes no bits.
+///
+/// # Errors
+///
+/// Those of `read_symbol`, at the code's first bit.
 #[tactic(auto, unfolding(mlp_layout::specs::Layout::made, crate::specs::Books::symbol_in))]
 #[inline]
 pub fn symbol_in(book: u8, r: &mut BitReader) -> Result<u8, Broken>
@@ -76,7 +86,11 @@ pub fn symbol_in(book: u8, r: &mut BitReader) -> Result<u8, Broken>
     Ok(symbol as u8)
 }
 
-/// Writes the code of a symbol. It is full exactly where `put` is.
+/// Writes the code of a symbol.
+///
+/// # Errors
+///
+/// `Full` exactly where the bits would pass 65,520. Then nothing is written.
 #[inline]
 pub fn write_symbol<B: Codebook>(symbol: u32, w: &mut BitWriter) -> Result<(), Full>
     requires { symbol < B.SYMBOLS }
@@ -96,7 +110,11 @@ fn put_symbol<B: Codebook>(symbol: u32, w: &mut BitWriter) -> Result<(), Full>
     put_number(B::pattern(symbol), B::width(symbol), w)
 }
 
-/// Writes the code of a symbol of the book with this number.
+/// Writes the code of a symbol of the book with this number, 0 to 3.
+///
+/// # Errors
+///
+/// `Full` exactly where the bits would pass 65,520.
 #[tactic(auto, unfolding(mlp_layout::specs::Layout::made, crate::specs::Books::symbol_in, crate::specs::Books::symbol_of, crate::specs::Books::book1, crate::specs::Books::book2, crate::specs::Books::book3))]
 #[inline]
 pub fn put_symbol_in(book: u8, symbol: u8, w: &mut BitWriter) -> Result<(), Full>
@@ -128,7 +146,8 @@ pub fn length<B: Codebook>(symbol: u32) -> u32
 pub fn lengths_in(book: u8) -> &'static [u8]
     requires { book ≤ 3 }
     ensures count { 1 ≤ length result.now }
-    ensures each { (s : ℕ) → (symbol_in book).Fits s → slice_index_or result.now s 0 ≡ length ((symbol_in book).spelling s) }
+    ensures each { (s : ℕ) → (symbol_in book).Fits s →
+        slice_index_or result.now s 0 ≡ length ((symbol_in book).spelling s) }
     ensures fits { (s : ℕ) → (symbol_in book).Fits s ↔ (s < length result.now) }
 {
     match book {
@@ -139,13 +158,14 @@ pub fn lengths_in(book: u8) -> &'static [u8]
     }
 }
 
-/// What each number of nine bits says of each book, those of book b from 512 * b on: 256 times the symbol whose code they
-/// begin with, plus the code's width; 65535 where they begin with none. In book 0 each begins with the symbol 0, whose
-/// code has no bits.
+/// What each number of nine bits means in each book, those of book b from 512 * b on: 256 times the symbol whose code
+/// they begin with, plus the code's width; `NO_CODE` where they begin with none. In book 0 each begins with the symbol
+/// 0, whose code has no bits.
 #[inline]
 pub fn meanings() -> &'static [u16]
     ensures count { length result.now ≡ 2048 }
-    ensures each { (book nine : ℕ) → book ≤ 3 → nine < 2 ^ 9 → slice_index_or result.now (512 * book + nine) 0 ≡ meaning_in book nine }
+    ensures each { (book nine : ℕ) → book ≤ 3 → nine < 2 ^ 9 →
+        slice_index_or result.now (512 * book + nine) 0 ≡ meaning_in book nine }
 {
     &MEANINGS
 }

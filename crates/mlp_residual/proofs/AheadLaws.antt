@@ -30,7 +30,8 @@ word_field all rest p o w n is le =
     let s : bits 64 n ≡ bits (o + (64 - o)) n = ap (λ (k : ℕ). bits k n) e in
     let d : drop o (bits 64 n) ≡ bits (64 - o) n = ap (drop o) s ∙ bits-drop o (64 - o) n in
     let g : bits (64 - o) n ≡ bits w (n / 2 ^ (64 - o - w)) ++ bits (64 - o - w) n = ap (λ (k : ℕ). bits k n) f ∙ bits-split w (64 - o - w) n in
-    let t : take w ((bits w (n / 2 ^ (64 - o - w)) ++ bits (64 - o - w) n) ++ rest) ≡ bits w (n / 2 ^ (64 - o - w)) = ap (take w) (append_assoc (bits w (n / 2 ^ (64 - o - w))) (bits (64 - o - w) n) rest) ∙ take_at _ _ w (length-bits w (n / 2 ^ (64 - o - w))) in
+    let t : take w ((bits w (n / 2 ^ (64 - o - w)) ++ bits (64 - o - w) n) ++ rest) ≡ bits w (n / 2 ^ (64 - o - w)) = ap (take w) (append_assoc (bits w (n / 2 ^ (64 - o - w))) (bits (64 - o - w) n) rest)
+    ∙ take_at _ _ w (length-bits w (n / 2 ^ (64 - o - w))) in
     rw (← drop-drop o p all, is, drop-append-le o (bits 64 n) rest (omega (arith, length-bits 64 n)), d, g, t, number-bits w (n / 2 ^ (64 - o - w))) refl
 
 -- a word moved up by o bits, then down so that w are left
@@ -101,7 +102,8 @@ turned n (suc u) lt le =
     let sixty-four : 64 ≡ (64 - t) + t = omega arith in
     let low : n * 2 ^ t % 2 ^ t ≡ 0 = mul-mod_left n (2 ^ t) in
     let back : n * 2 ^ t / 2 ^ t ≡ n = mul-div_left n (pow_pos t) in
-    let up : n * 2 ^ t % 2 ^ 64 ≡ (n % 2 ^ (64 - t)) * 2 ^ t = ap (λ (k : ℕ). n * 2 ^ t % 2 ^ k) sixty-four ∙ mod-pow-add (n * 2 ^ t) (64 - t) t ∙ rw (low, back) (let none : (n % 2 ^ (64 - t)) * 2 ^ t + 0 ≡ (n % 2 ^ (64 - t)) * 2 ^ t = omega arith in none) in
+    let up : n * 2 ^ t % 2 ^ 64 ≡ (n % 2 ^ (64 - t)) * 2 ^ t = ap (λ (k : ℕ). n * 2 ^ t % 2 ^ k) sixty-four ∙ mod-pow-add (n * 2 ^ t) (64 - t) t
+    ∙ rw (low, back) (let none : (n % 2 ^ (64 - t)) * 2 ^ t + 0 ≡ (n % 2 ^ (64 - t)) * 2 ^ t = omega arith in none) in
     let small : n / 2 ^ (64 - t) < 2 ^ t = (div-lt_iff_lt-mul (pow_pos (64 - t))).1 (rw (← pow-add 2 t (64 - t)) (ap_lt sixty-four)) in
     rw (same, other, up) (or_shifted (n % 2 ^ (64 - t)) t (n / 2 ^ (64 - t)) small)
   where
@@ -204,7 +206,8 @@ meaning_ahead book first p nine n window left all meanings le first-is room enou
     nine_of zero left some enough = absurd (omega (arith, some))
     nine_of (suc book) left some enough = omega (arith, enough)
 
-pub code_reads : (c : ChannelCode) (all : List Bool) (p q s n : ℕ) → (symbol_in c.book).read all p ≡ Ok (s, q) → q + c.low ≤ length all → n ≡ number (take c.low (drop q all)) → (code c).read all p ≡ Ok (record { symbol = s; low = n }, q + c.low)
+pub code_reads : (c : ChannelCode) (all : List Bool) (p q s n : ℕ) → (symbol_in c.book).read all p ≡ Ok (s, q) → q + c.low ≤ length all → n ≡ number (take c.low (drop q all))
+    → (code c).read all p ≡ Ok (record { symbol = s; low = n }, q + c.low)
 unfolding code part made number_of number_at
 code_reads c all p q s n h le is = rw (h, le-leb (q + c.low) (length all) le, is) refl
 
@@ -270,4 +273,4 @@ most_more [] l = omega arith
 most_more (k ∷ ks) l = ap (λ (n : ℕ). most_of k + n) (most_more ks l) ∙ (let e : most_of k + (most_in ks + most_of l) ≡ most_of k + most_in ks + most_of l = omega arith in e)
 
 pub looked_up_few : (l : Lookup) → IsLookup l → most_of l ≤ 40
-looked_up_few l is = omega (arith, longest (l.first / 512), is.low)
+looked_up_few l is = omega (arith, longest (l.table_start / 512), is.low)

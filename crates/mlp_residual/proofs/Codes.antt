@@ -8,7 +8,7 @@ use Rattle.std.proofs.Math.Pow.{pow_pos, pow-lt}
 use Rattle.mlp_syntax.specs.declared.segment.Code.{Code}
 use Rattle.mlp_arith.specs.Words.{clear}
 use Rattle.mlp_arith.proofs.Floors.{floor_only}
-use Rattle.mlp_residual.specs.Coding.{symbols_of, below_of, value_of, Spells}
+use Rattle.mlp_residual.specs.Coding.{symbols_of, sign_offset, value_of, Spells}
 
 -- a multiple of the divisor has itself as its floor
 pub floor_multiple : (v : ℤ) (m : ℕ) → 0 < m → shr_z (v *ℤ pos m) m ≡ v
@@ -23,13 +23,14 @@ pub same_value : (q : ℕ) (v w : ℤ) → v *ℤ pos (2 ^ q) ≡ w *ℤ pos (2 
 same_value q v w e = sym (floor_multiple v (2 ^ q) (pow_pos q)) ∙ ap (λ z. shr_z z (2 ^ q)) e ∙ floor_multiple w (2 ^ q) (pow_pos q)
 
 -- the place above the least value, from the residual
-pub place_of : (book b q : ℕ) (code : Code) (offset v r : ℤ) → v *ℤ pos (2 ^ q) ≡ r → Spells book b offset q r code → v -ℤ offset +ℤ pos (below_of book b) ≡ pos (code.symbol * 2 ^ b + code.low)
+pub place_of : (book b q : ℕ) (code : Code) (offset v r : ℤ) → v *ℤ pos (2 ^ q) ≡ r → Spells book b offset q r code → v -ℤ offset +ℤ pos (sign_offset book b) ≡ pos (code.symbol * 2 ^ b + code.low)
 place_of book b q code offset v r e s =
     let a : v ≡ value_of book b offset code = same_value q v (value_of book b offset code) (e ∙ sym s.value) in
     omega (arith, ints, a)
 
 -- .. and back
-pub spelled : (book b q : ℕ) (code : Code) (offset v r : ℤ) → v *ℤ pos (2 ^ q) ≡ r → v -ℤ offset +ℤ pos (below_of book b) ≡ pos (code.symbol * 2 ^ b + code.low) → code.symbol < symbols_of book → code.low < 2 ^ b → Spells book b offset q r code
+pub spelled : (book b q : ℕ) (code : Code) (offset v r : ℤ) → v *ℤ pos (2 ^ q) ≡ r → v -ℤ offset +ℤ pos (sign_offset book b) ≡ pos (code.symbol * 2 ^ b + code.low) → code.symbol < symbols_of book → code.low < 2 ^ b
+    → Spells book b offset q r code
 spelled book b q code offset v r e p s l = record {
   symbol_in = s;
   low_in = l;
@@ -41,11 +42,13 @@ pub within : (book b symbol low : ℕ) → symbol < symbols_of book → low < 2 
 within book b symbol low s l = let k : suc symbol * 2 ^ b ≤ symbols_of book * 2 ^ b = mul-le-mul_right (2 ^ b) s in omega (arith, k)
 
 -- what the code reads off a place
-pub read_code : (o : Option Code) (book b q : ℕ) (offset v r place : ℤ) → v *ℤ pos (2 ^ q) ≡ r → place ≡ v -ℤ offset +ℤ pos (below_of book b) → pos 0 ≤ℤ place → FitsSigned w64 place → IfSome o (λ c. unsigned_abs (to_z w64 (of_z w64 place)) ≡ c.symbol * 2 ^ b + c.low) → IfSome o (λ c. c.symbol < symbols_of book) → IfSome o (λ c. c.low < 2 ^ b) → IfSome o (λ c. Spells book b offset q r c)
+pub read_code : (o : Option Code) (book b q : ℕ) (offset v r place : ℤ) → v *ℤ pos (2 ^ q) ≡ r → place ≡ v -ℤ offset +ℤ pos (sign_offset book b) → pos 0 ≤ℤ place → FitsSigned w64 place
+    → IfSome o (λ c. unsigned_abs (to_z w64 (of_z w64 place)) ≡ c.symbol * 2 ^ b + c.low) → IfSome o (λ c. c.symbol < symbols_of book) → IfSome o (λ c. c.low < 2 ^ b) → IfSome o (λ c. Spells book b offset q r c)
 read_code None book b q offset v r place e p n f c s l = tt
 read_code (Some x) book b q offset v r place e p n f c s l = spelled book b q x offset v r e (omega (arith, ints, c, p, n, f)) s l
 
-pub no_code : (o : Option Code) (book b q : ℕ) (offset v r place : ℤ) → v *ℤ pos (2 ^ q) ≡ r → place ≡ v -ℤ offset +ℤ pos (below_of book b) → FitsSigned w64 place → IfNone o (symbols_of book * 2 ^ b ≤ unsigned_abs (to_z w64 (of_z w64 place))) → IfNone o ((code : Code) → Spells book b offset q r code → ⊥)
+pub no_code : (o : Option Code) (book b q : ℕ) (offset v r place : ℤ) → v *ℤ pos (2 ^ q) ≡ r → place ≡ v -ℤ offset +ℤ pos (sign_offset book b) → FitsSigned w64 place
+    → IfNone o (symbols_of book * 2 ^ b ≤ unsigned_abs (to_z w64 (of_z w64 place))) → IfNone o ((code : Code) → Spells book b offset q r code → ⊥)
 no_code (Some x) book b q offset v r place e p f c = tt
 no_code None book b q offset v r place e p f c = λ code s.
     let k = place_of book b q code offset v r e s in

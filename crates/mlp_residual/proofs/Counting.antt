@@ -1,13 +1,18 @@
 -- How many bits residuals take.
-use Rattle.std.proofs.Common.{◌≡◌, ℕ, zero, suc, ◌+◌, ◌*◌, ◌/◌, ◌<◌, ◌≤◌, ◌^◌, ℤ, List, [], ◌∷◌, length, arith, refl, sym, ◌∙◌, ap, subst}
+use Rattle.std.proofs.Common.{◌≡◌, ℕ, zero, suc, ◌+◌, ◌*◌, ◌/◌, ◌<◌, ◌≤◌, ◌^◌, ℤ, List, [], ◌∷◌, ◌++◌, length, arith, refl, sym, ◌∙◌, ap, subst}
 use Rattle.std.proofs.lemmas.Int.{ints}
 use lib.Pow.{high}
 use Rattle.mlp_syntax.specs.declared.segment.Code.{Code}
-use Rattle.mlp_layout.specs.Layout.{made}
+use Rattle.mlp_layout.specs.Layout.{part, made, number_of}
 use Rattle.mlp_books.specs.BookFacts.{counted1, counted2, counted3, passes1, passes2, passes3}
 use Rattle.mlp_books.specs.Books.{book1, book2, book3, symbol_of, symbol_in}
-use Rattle.mlp_books.proofs.TableLaws.{code_short}
-use Rattle.mlp_residual.specs.Coding.{symbols_of, value_of, Spells, length_of, TakeBits}
+use Rattle.mlp_books.proofs.TableLaws.{code_short, fits0, fits1, fits2, fits3}
+use Rattle.std.specs.Prelude.{◌↔◌}
+use Rattle.std.proofs.lemmas.List.{length-append}
+use Rattle.mlp_bits.specs.Bits.{bits}
+use Rattle.mlp_bits.proofs.BitLists.{length-bits}
+use Rattle.mlp_residual.specs.Coding.{symbols_of, value_of, Spells, code_with, length_of, TakeBits}
+use Rattle.mlp_residual.specs.Frames.{code}
 use Rattle.mlp_residual.proofs.Codes.{place_of}
 
 -- a residual has one code
@@ -22,6 +27,23 @@ same_code book b q offset r c d s t =
   where
     made_of : ℕ → ℕ → Code
     made_of symbol low = record { symbol = symbol; low = low }
+
+-- a code takes the bits of its symbol and the low bits
+pub length_is : (book b : ℕ) (c : Code) → length_of book b c ≡ length ((symbol_in book).spelling c.symbol) + b
+unfolding code part made number_of
+length_is book b c = omega (arith, length-append ((symbol_in book).spelling c.symbol) (bits b c.low ++ []), length-append (bits b c.low) [], length-bits b c.low)
+
+pub symbols_fit : (book s : ℕ) → (symbol_in book).Fits s ↔ (s < symbols_of book)
+unfolding symbol_in
+symbols_fit zero s = fits0 s
+symbols_fit (suc zero) s = fits1 s
+symbols_fit (suc (suc zero)) s = fits2 s
+symbols_fit (suc (suc (suc book))) s = fits3 s
+
+-- a code that spells a residual has a spelling
+pub spelled_fits : (book b step : ℕ) (offset r : ℤ) (c : Code) → Spells book b offset step r c → (code_with book b).Fits c
+unfolding code part made number_of
+spelled_fits book b step offset r c s = ((symbols_fit book c.symbol).1 s.symbol_in, (s.low_in, refl))
 
 -- one residual takes so many bits
 pub record Takes (book b : ℕ) (offset : ℤ) (step : ℕ) (r : ℤ) (n : ℕ) : Type 0 where
@@ -40,7 +62,8 @@ counted_none book b offset step all = record {
   rest = λ n h. (n, h, omega arith);
 }
 
-pub counted_one : (book b : ℕ) (offset : ℤ) (step : ℕ) (all left later : List ℤ) (r : ℤ) (bits n : ℕ) → left ≡ r ∷ later → Takes book b offset step r n → Counted book b offset step all left bits → Counted book b offset step all later (bits + n)
+pub counted_one : (book b : ℕ) (offset : ℤ) (step : ℕ) (all left later : List ℤ) (r : ℤ) (bits n : ℕ) → left ≡ r ∷ later → Takes book b offset step r n → Counted book b offset step all left bits
+    → Counted book b offset step all later (bits + n)
 unfolding TakeBits
 counted_one book b offset step all left later r bits n is t k = record {
   whole = λ m h.
@@ -54,7 +77,8 @@ counted_one book b offset step all left later r bits n is t k = record {
 }
 
 -- a residual without a code
-pub counted_never : (book b : ℕ) (offset : ℤ) (step : ℕ) (all left later : List ℤ) (r : ℤ) (bits : ℕ) → left ≡ r ∷ later → ((code : Code) → Spells book b offset step r code → ⊥) → Counted book b offset step all left bits → (n : ℕ) → TakeBits book b offset step all n → ⊥
+pub counted_never : (book b : ℕ) (offset : ℤ) (step : ℕ) (all left later : List ℤ) (r : ℤ) (bits : ℕ) → left ≡ r ∷ later → ((code : Code) → Spells book b offset step r code → ⊥) → Counted book b offset step all left bits
+    → (n : ℕ) → TakeBits book b offset step all n → ⊥
 unfolding TakeBits
 counted_never book b offset step all left later r bits is none k n h =
     let a = k.rest n h in

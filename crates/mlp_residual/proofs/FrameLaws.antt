@@ -12,7 +12,7 @@ use borrow.Rule.Slice.PartMut.{put_mid}
 use Rattle.mlp_layout.specs.Combined.{series, times, listed}
 use Rattle.mlp_layout.specs.Allowed.{Allowed}
 use Rattle.mlp_layout.proofs.LayoutLaws.{seen_is}
-use Rattle.mlp_layout.proofs.CombinedLaws.{layouts}
+use Rattle.mlp_layout.proofs.CombinedLaws.{layouts, times_count}
 use Rattle.mlp_layout.proofs.Loops.{SeriesContinues}
 use Rattle.mlp_books.proofs.SymbolLaws.{symbol_in_is}
 use Rattle.mlp_params.specs.declared.state.State.{State}
@@ -122,25 +122,9 @@ same_before l (suc n) a b all p = go (l.read all p) (λ x. same_before l n (a ++
     go (Ok x) h = ap (λ (r : Read _). r >>= λ xs. ok_of (x.0 ∷ xs.0, xs.1)) (h x)
     go (Err e) h = refl
 
--- where frames begin behind others
-pub starts_behind : {A : Type 0} (l : Layout A) (n : ℕ) (front : List A) (all : List Bool) (p : ℕ) → SeriesContinues (λ _. l) (n - 0) front all p (with_front front ((series (λ _. l) n []).read all p))
-starts_behind l n front all p = let e : n - 0 ≡ n = omega arith in rw e (ap (with_front front) (same_before l n front [] all p))
-
--- a fault is the same, whatever is there
-pub front_fails : {A : Type 0} (front : List A) (read : Read (List A)) (e : Broken) → with_front front read ≡ Err e → read ≡ Err e
-front_fails front (Ok x) e h = absurd cc
-front_fails front (Err d) e h = let same : d ≡ e = cc in ap (λ (f : Broken). Err f) same
-
--- a list of so many values has that length
-times-length : {A : Type 0} (l : Layout A) (n : ℕ) (xs : List A) → (times n l).Fits xs → length xs ≡ n
-unfolding times item made
-times-length l zero xs fits = ap (λ ys. length ys) fits
-times-length l (suc n) [] fits = absurd fits
-times-length l (suc n) (x ∷ xs) fits = ap suc (times-length l n xs fits.1)
-
 pub listed-length : {A : Type 0} (l : Layout A) (n : ℕ) (v : ArrayVec A) → Allowed (listed n l) v → array_vec_len v ≡ n
 unfolding listed part
-listed-length l n v h = times-length l n v.items h.fits.0
+listed-length l n v h = times_count n l v.items h.fits.0
 
 -- ---- some values after others
 
@@ -207,11 +191,6 @@ pub first_fails : {A : Type 0} (l : Layout A) (n : ℕ) (all : List Bool) (p : �
 unfolding series item
 first_fails l zero all p e h fails = absurd (omega arith)
 first_fails l (suc n) all p e h fails = rw fails refl
-
--- none
-pub none_is_read : {A : Type 0} (l : Layout A) (all : List Bool) (p : ℕ) → (series (λ _. l) 0 []).read all p ≡ Ok ([], p)
-unfolding series made
-none_is_read l all p = refl
 
 -- ---- values in place of others
 

@@ -46,7 +46,8 @@ no_bypass rows none all p = rw (nothing_read rows none (length rows) [] all p, p
 abbrev pub without_bypass : List Code → FrameCode
 without_bypass codes = record { bypass = 0; codes = record { items = codes } }
 
-pub frame_reads : (k : Coding) (codes : List Code) (all : List Bool) (p q : ℕ) → All (λ b. b ≡ false) k.bypass.items → (series (code_at k.channels.items) (length k.channels.items) []).read all p ≡ Ok (codes, q) → (frame k).read all p ≡ Ok (without_bypass codes, q)
+pub frame_reads : (k : Coding) (codes : List Code) (all : List Bool) (p q : ℕ) → All (λ b. b ≡ false) k.bypass.items → (series (code_at k.channels.items) (length k.channels.items) []).read all p ≡ Ok (codes, q)
+    → (frame k).read all p ≡ Ok (without_bypass codes, q)
 unfolding frame part made
 frame_reads k codes all p q none h = rw (no_bypass k.bypass.items none all p, h) refl
 
@@ -73,7 +74,8 @@ pub record FramesRead (k : Coding) (count : ℕ) (frames : List FrameCode) (all 
 pub none_read : (k : Coding) (all : List Bool) (place : ℕ) → FramesRead k 0 [] all place place
 none_read k all place = record { on = λ m le. starts (λ _. frame k) m all place }
 
-pub one_more : (k : Coding) (count : ℕ) (frames : List FrameCode) (f : FrameCode) (all : List Bool) (place end behind : ℕ) → (frame k).read all end ≡ Ok (f, behind) → FramesRead k count frames all place end → FramesRead k (count + 1) (frames ++ f ∷ []) all place behind
+pub one_more : (k : Coding) (count : ℕ) (frames : List FrameCode) (f : FrameCode) (all : List Bool) (place end behind : ℕ) → (frame k).read all end ≡ Ok (f, behind) → FramesRead k count frames all place end
+    → FramesRead k (count + 1) (frames ++ f ∷ []) all place behind
 one_more k count frames f all place end behind h so_far = record {
   on = λ m le. series_goes_on (λ _. frame k) frames m count all end behind f _ (omega arith) h (so_far.on m (omega arith));
 }
@@ -82,6 +84,7 @@ pub all_read : (k : Coding) (count : ℕ) (frames : List FrameCode) (all : List 
 unfolding coded_frames
 all_read k count frames all place end so_far = series_is_done (λ _. frame k) frames count count all end _ (omega arith) (so_far.on count (omega arith))
 
-pub then_fails : (k : Coding) (count m : ℕ) (frames : List FrameCode) (e : Broken) (all : List Bool) (place end : ℕ) → count < m → (frame k).read all end ≡ Err e → FramesRead k count frames all place end → (coded_frames k m).read all place ≡ Err e
+pub then_fails : (k : Coding) (count m : ℕ) (frames : List FrameCode) (e : Broken) (all : List Bool) (place end : ℕ) → count < m → (frame k).read all end ≡ Err e → FramesRead k count frames all place end
+    → (coded_frames k m).read all place ≡ Err e
 unfolding coded_frames
 then_fails k count m frames e all place end lt h so_far = series_stops (λ _. frame k) frames m count all end e _ lt h (so_far.on m (omega arith))

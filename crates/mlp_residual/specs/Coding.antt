@@ -2,7 +2,8 @@
 use Rattle.std.specs.Prelude.{◌≡◌, ℕ, suc, zero, ◌+◌, ◌*◌, ◌/◌, ◌^◌, ◌<◌, ℤ, pos, ◌+ℤ◌, ◌-ℤ◌, ◌*ℤ◌, List, [], ◌∷◌, length, Option, Some, None}
 use Rattle.mlp_syntax.specs.declared.segment.Code.{Code}
 use Rattle.mlp_arith.specs.Words.{wrap}
-use Rattle.mlp_books.specs.Books.{symbol_in}
+use Rattle.mlp_layout.specs.Layout.{Layout}
+use Rattle.mlp_residual.specs.Frames.{code}
 
 -- how many symbols a book has; book 0 has the one that takes no bits
 abbrev pub symbols_of : ℕ → ℕ
@@ -13,15 +14,15 @@ symbols_of (suc (suc (suc book))) = 15
 
 -- how far the values lie below those that the symbols and low bits spell: 7 * 2^b in a book, and 2^(b + 2 - book) in a
 -- book or 2^(b - 1) without one, where that power isn't negative
-abbrev pub below_of : ℕ → ℕ → ℕ
-below_of zero b = 2 ^ b / 2
-below_of (suc zero) b = 7 * 2 ^ b + 2 * 2 ^ b
-below_of (suc (suc zero)) b = 7 * 2 ^ b + 2 ^ b
-below_of (suc (suc (suc book))) b = 7 * 2 ^ b + 2 ^ b / 2
+abbrev pub sign_offset : ℕ → ℕ → ℕ
+sign_offset zero b = 2 ^ b / 2
+sign_offset (suc zero) b = 7 * 2 ^ b + 2 * 2 ^ b
+sign_offset (suc (suc zero)) b = 7 * 2 ^ b + 2 ^ b
+sign_offset (suc (suc (suc book))) b = 7 * 2 ^ b + 2 ^ b / 2
 
 -- the value of a symbol with b low bits, a number of quantisation steps
 abbrev pub value_of : ℕ → ℕ → ℤ → Code → ℤ
-value_of book b offset code = pos (code.symbol * 2 ^ b + code.low) +ℤ offset -ℤ pos (below_of book b)
+value_of book b offset code = pos (code.symbol * 2 ^ b + code.low) +ℤ offset -ℤ pos (sign_offset book b)
 
 -- the residual of a code
 abbrev pub residual_of : ℕ → ℕ → ℤ → ℕ → Code → ℤ
@@ -35,9 +36,13 @@ pub record Spells (book b : ℕ) (offset : ℤ) (step : ℕ) (residual : ℤ) (c
 
 -- ---- how many bits codes take
 
--- those of the symbol's code, and the low bits
+-- the layout of the codes of a book with b low bits
+abbrev pub code_with : ℕ → ℕ → Layout Code
+code_with book b = code (record { book = book; low = b })
+
+-- as many bits as its spelling has: those of the symbol's code, and the low bits
 abbrev pub length_of : ℕ → ℕ → Code → ℕ
-length_of book b code = length ((symbol_in book).spelling code.symbol) + b
+length_of book b value = length ((code_with book b).spelling value)
 
 -- the residuals have codes, which take so many bits in all
 unfoldable pub TakeBits : ℕ → ℕ → ℤ → ℕ → List ℤ → ℕ → Type 0

@@ -29,14 +29,14 @@ coding_of s = record {
 }
 
 -- each channel has at least as many low bits as its step
-abbrev pub steps_below : List ℕ → List ChannelState → Bool
-steps_below [] channels = true
-steps_below (step ∷ steps) [] = true
-steps_below (step ∷ steps) (c ∷ channels) = nat_le step c.low && steps_below steps channels
+abbrev pub steps_within : List ℕ → List ChannelState → Bool
+steps_within [] channels = true
+steps_within (step ∷ steps) [] = true
+steps_within (step ∷ steps) (c ∷ channels) = nat_le step c.low && steps_within steps channels
 
 -- .. and so have those from the least to the greatest
 abbrev pub steps_fit : State → Bool
-steps_fit s = steps_below (drop s.restart.min s.steps.items) (drop s.restart.min s.channels.items)
+steps_fit s = steps_within (drop s.restart.min s.steps.items) (drop s.restart.min s.channels.items)
 
 -- ---- the bypass bits
 
@@ -73,12 +73,16 @@ no_code = record { book = 0; low = 0 }
 abbrev pub code_at : List ChannelCode → List Code → Layout Code
 code_at channels before = code (slice_index_or channels (length before) no_code)
 
+-- a code of each channel
+abbrev pub codes_in : List ChannelCode → Layout (List Code)
+codes_in channels = series (code_at channels) (length channels) []
+
 -- ---- frames
 
 unfoldable pub frame : Coding → Layout FrameCode
 frame k =
     part (bypass_bits k.bypass.items) (λ f. f.bypass) (λ bypass.
-    part (series (code_at k.channels.items) (length k.channels.items) []) (λ f. f.codes.items) (λ codes.
+    part (codes_in k.channels.items) (λ f. f.codes.items) (λ codes.
     made (record { bypass = bypass; codes = record { items = codes } })))
 
 -- so many frames

@@ -2,16 +2,15 @@
 ghost use Rattle.std.specs.Prelude.{◌≡◌, true, ℕ, ◌+◌, ◌*◌, ◌-◌, ◌/◌, ◌<◌, ◌≤◌, [], Ok, Err, All, Bool, List, IfOk, MatchOption, MatchResult, length, map};
 ghost use Rattle.mlp_bits.specs.Bits.{bits_of};
 ghost use Rattle.mlp_layout.specs.Reading.{broken};
-ghost use Rattle.mlp_layout.specs.Combined.{series};
 ghost use Rattle.mlp_books.specs.Books.{longest_in};
 ghost use Rattle.mlp_syntax.specs.declared.fault.Field.TheVariants as rule;
-ghost use Rattle.mlp_residual.specs.Lookups.{channel_of, most_of, most_in, bits_for, IsLookup, IsWindow, Planned, HasRoom, AreLookups};
-ghost use Rattle.mlp_residual.specs.Frames.{code, code_at, IsCoded};
+ghost use Rattle.mlp_residual.specs.Lookups.{channel_of, most_of, most_in, bits_for, codes_looked_up, IsLookup, IsWindow, Planned, HasRoom, AreLookups};
+ghost use Rattle.mlp_residual.specs.Frames.{code, IsCoded};
 
 use crate::frames::ChannelCode;
 use arrayvec::ArrayVec;
 use mlp_bits::word_at;
-use mlp_books::meanings;
+use mlp_books::{NO_CODE, meanings};
 use mlp_layout::broken;
 use mlp_syntax::{Broken, Code, Field};
 
@@ -19,13 +18,13 @@ use mlp_syntax::{Broken, Code, Field};
 #[derive(Clone, Copy, Debug, Default, PartialEq, Eq)]
 pub(crate) struct Lookup {
     /// Where what nine bits say of the channel's book begins.
-    pub(crate) first: u32,
+    pub(crate) table_start: u32,
     /// The number of low bits.
     pub(crate) low: u32,
     /// Ones in the places of the low bits.
     pub(crate) mask: u32,
     /// Whether the window may have too few bits left for the code, and is taken anew.
-    pub(crate) anew: bool,
+    pub(crate) reload: bool,
 }
 
 /// How the codes of the channels of a frame are looked up.
@@ -61,10 +60,10 @@ fn lookup_of(channel: ChannelCode, left: u32) -> Lookup
 {
     let low = u32::from(channel.low);
     Lookup {
-        first: 512 * u32::from(channel.book),
+        table_start: 512 * u32::from(channel.book),
         low,
         mask: (1 << low) - 1,
-        anew: left < most_of(channel),
+        reload: left < most_of(channel),
     }
 }
 
@@ -77,22 +76,23 @@ fn left_behind(channel: ChannelCode, lookup: Lookup, left: u32) -> u32
     ensures value { result ≡ bits_for lookup left - most_of lookup }
     ensures few { result ≤ 57 }
 {
-    let here = if lookup.anew { 57 } else { left };
+    let here = if lookup.reload { 57 } else { left };
     here - most_of(channel)
 }
 
 /// How many bits there must be for a frame of at most so many, of which some windows are taken anew or none.
-fn room_of(most: u32, anew: bool) -> u32
+fn room_of(most: u32, reload: bool) -> u32
     requires { most ≤ 320 }
     ensures codes { most ≤ result }
     ensures first { 64 ≤ result }
-    ensures others { anew ≡ true → most + 64 ≤ result }
+    ensures others { reload ≡ true → most + 64 ≤ result }
     ensures small { result ≤ 384 }
 {
-    if anew { most + 64 } else { most.max(64) }
+    if reload { most + 64 } else { most.max(64) }
 }
 
-/// How the codes of the channels of a frame are looked up, from one window, or from several where one may not be enough.
+/// How the codes of the channels of a frame are looked up, from one window, or from several where one
+/// may not be enough.
 pub(crate) fn lookups_of(channels: &[ChannelCode]) -> Lookups
     requires coded { All IsCoded channels.now }
     requires count { length channels.now ≤ 8 }
@@ -101,18 +101,18 @@ pub(crate) fn lookups_of(channels: &[ChannelCode]) -> Lookups
     let mut lookups = ArrayVec::new();
     let mut left = 57;
     let mut most = 0;
-    let mut anew = false;
+    let mut reload = false;
     for channel in channels {
         let lookup = lookup_of(*channel, left);
         left = left_behind(*channel, lookup, left);
         most += most_of(*channel);
-        anew = anew || lookup.anew;
+        reload = reload || lookup.reload;
         lookups.push(lookup);
     }
     Lookups {
         channels: lookups,
         most,
-        room: room_of(most, anew),
+        room: room_of(most, reload),
     }
 }
 
@@ -130,7 +130,8 @@ fn window_at(bytes: &[u8], place: u32) -> u64
 fn window_near_end(bytes: &[u8], place: u32) -> u64
     requires place { place < 8 * length bytes.now }
     requires eight { 8 ≤ length bytes.now }
-    ensures { (count : ℕ) → count ≤ 57 → place + count ≤ 8 * length bytes.now → IsWindow result count (bits_of bytes.now) place }
+    ensures { (count : ℕ) → count ≤ 57 → place + count ≤ 8 * length bytes.now →
+        IsWindow result count (bits_of bytes.now) place }
 {
     let at = (place as usize / 8).min(bytes.len() - 8);
     word_at(bytes, at) << (place as usize - 8 * at)
@@ -139,30 +140,30 @@ fn window_near_end(bytes: &[u8], place: u32) -> u64
 /// The window for a code: the one that there is, or a new one.
 #[inline]
 fn window_for(lookup: Lookup, window: u64, bytes: &[u8], place: u32) -> u64
-    requires { lookup.anew ≡ true → place + 64 ≤ 8 * length bytes.now }
-    ensures { (left : ℕ) → IsWindow window left (bits_of bytes.now) place → IsWindow result (bits_for lookup left) (bits_of bytes.now) place }
+    requires { lookup.reload ≡ true → place + 64 ≤ 8 * length bytes.now }
+    ensures { (left : ℕ) → IsWindow window left (bits_of bytes.now) place →
+        IsWindow result (bits_for lookup left) (bits_of bytes.now) place }
 {
-    if lookup.anew {
+    if lookup.reload {
         window_at(bytes, place)
     } else {
         window
     }
 }
 
-/// What nine bits say of a book where they begin with none of its codes.
-const NO_CODE: u16 = 65535;
-
-/// The code at the front of a window, the window behind it, and how many bits it takes. Where there is none, nine bits are
-/// no code there.
+/// The code at the front of a window, the window behind it, and how many bits it takes. Where there is
+/// none, nine bits are no code there.
 #[inline]
 fn code_ahead(lookup: Lookup, window: u64, out: &mut Code) -> Option<(u64, u32)>
     requires looked_up { IsLookup lookup }
-    ensures read { (left place : ℕ) (all : List Bool) → IsWindow window left all place → most_of lookup ≤ left → place + most_of lookup ≤ length all → MatchOption result
+    ensures read { (left place : ℕ) (all : List Bool) → IsWindow window left all place →
+        most_of lookup ≤ left → place + most_of lookup ≤ length all → MatchOption result
         ((code (channel_of lookup)).read all place ≡ Err (broken rule.Code place))
-        (λ x. ((code (channel_of lookup)).read all place ≡ Ok (out.new, place + x.1)) × IsWindow x.0 (left - most_of lookup) all (place + x.1) × (x.1 ≤ most_of lookup)) }
+        (λ x. ((code (channel_of lookup)).read all place ≡ Ok (out.new, place + x.1)) ×
+        IsWindow x.0 (left - most_of lookup) all (place + x.1) × (x.1 ≤ most_of lookup)) }
 {
     let nine = (window >> 55) as u32;
-    let meaning = meanings()[(lookup.first + nine) as usize];
+    let meaning = meanings()[(lookup.table_start + nine) as usize];
     if meaning == NO_CODE {
         return None;
     }
@@ -189,8 +190,8 @@ pub(crate) fn codes_ahead(
     requires room { place + room ≤ 8 * length bytes.now }
     requires short { length bytes.now ≤ 8190 }
     ensures read { MatchResult result
-        (λ end. (series (code_at (map channel_of lookups.now)) (length lookups.now) []).read (bits_of bytes.now) place ≡ Ok (codes.new, end))
-        (λ e. (series (code_at (map channel_of lookups.now)) (length lookups.now) []).read (bits_of bytes.now) place ≡ Err e) }
+        (λ end. (codes_looked_up lookups.now).read (bits_of bytes.now) place ≡ Ok (codes.new, end))
+        (λ e. (codes_looked_up lookups.now).read (bits_of bytes.now) place ≡ Err e) }
     ensures behind { IfOk result (λ end. (place ≤ end) × (end ≤ place + most_in lookups.now)) }
 {
     let mut window = window_at(bytes, place);
@@ -222,8 +223,8 @@ pub(crate) fn codes_near_end(
     requires eight { 8 ≤ length bytes.now }
     requires short { length bytes.now ≤ 8190 }
     ensures read { MatchResult result
-        (λ end. (series (code_at (map channel_of lookups.now)) (length lookups.now) []).read (bits_of bytes.now) place ≡ Ok (codes.new, end))
-        (λ e. (series (code_at (map channel_of lookups.now)) (length lookups.now) []).read (bits_of bytes.now) place ≡ Err e) }
+        (λ end. (codes_looked_up lookups.now).read (bits_of bytes.now) place ≡ Ok (codes.new, end))
+        (λ e. (codes_looked_up lookups.now).read (bits_of bytes.now) place ≡ Err e) }
     ensures behind { IfOk result (λ end. (place ≤ end) × (end ≤ place + most_in lookups.now)) }
 {
     let mut end = place;

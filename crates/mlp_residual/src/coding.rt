@@ -3,7 +3,7 @@ ghost use Rattle.std.specs.Prelude.{◌≡◌, ℕ, ◌+◌, ◌-◌, ◌*◌, �
 ghost use Rattle.std.specs.Int.{w32, w64};
 ghost use Rattle.mlp_arith.specs.Words.{clear, wrap};
 ghost use Rattle.mlp_syntax.specs.declared.segment.Code.{Code};
-ghost use Rattle.mlp_residual.specs.Coding.{symbols_of, below_of, value_of, residual_of, Spells};
+ghost use Rattle.mlp_residual.specs.Coding.{symbols_of, sign_offset, value_of, residual_of, Spells};
 
 use mlp_arith::{clear, floor_by, wrap};
 use mlp_syntax::Code;
@@ -35,10 +35,10 @@ fn power(b: u8) -> u64
 
 /// How far the values lie below those that symbols and low bits spell.
 #[inline]
-pub(crate) fn below_of(book: u8, b: u8) -> u64
+pub(crate) fn sign_offset(book: u8, b: u8) -> u64
     requires book { book ≤ 3 }
     requires b { b < 32 }
-    ensures value { result ≡ below_of book b }
+    ensures value { result ≡ sign_offset book b }
     ensures high { result ≤ 19327352832 }
 {
     let one = power(b);
@@ -60,7 +60,7 @@ fn value_of(book: u8, b: u8, offset: i16, code: Code) -> i64
     ensures most { result ≤ℤ pos 1099511627776 }
 {
     let place = u64::from(code.symbol) * power(b) + u64::from(code.low);
-    place as i64 + i64::from(offset) - below_of(book, b) as i64
+    place as i64 + i64::from(offset) - sign_offset(book, b) as i64
 }
 
 /// So many quantisation steps.
@@ -102,6 +102,15 @@ pub(crate) fn whole_of(step: u8, residual: i32) -> Option<i64>
     }
 }
 
+/// The low `b` bits of a number.
+#[inline]
+fn low_bits(n: u64, b: u8) -> u32
+    requires { b < 32 }
+    ensures { result ≡ n % 2 ^ b }
+{
+    (n & (power(b) - 1)) as u32
+}
+
 /// The symbol and the low bits of a place above the least value.
 #[inline]
 fn code_at(book: u8, b: u8, place: u64) -> Option<Code>
@@ -112,14 +121,13 @@ fn code_at(book: u8, b: u8, place: u64) -> Option<Code>
     ensures low { IfSome result (λ c. c.low < 2 ^ b) }
     ensures none { IfNone result (symbols_of book * 2 ^ b ≤ place) }
 {
-    let one = power(b);
-    let symbol = place / one;
+    let symbol = place >> b;
     if symbol >= symbols_of(book) {
         return None;
     }
     Some(Code {
         symbol: symbol as u8,
-        low: (place % one) as u32,
+        low: low_bits(place, b),
     })
 }
 
@@ -129,9 +137,9 @@ fn place_of(book: u8, b: u8, offset: i16, v: i64) -> i64
     requires book { book ≤ 3 }
     requires b { b < 32 }
     requires fits { FitsSigned w32 v }
-    ensures { result ≡ v -ℤ offset +ℤ pos (below_of book b) }
+    ensures { result ≡ v -ℤ offset +ℤ pos (sign_offset book b) }
 {
-    v - i64::from(offset) + below_of(book, b) as i64
+    v - i64::from(offset) + sign_offset(book, b) as i64
 }
 
 /// The code of a residual. There is none exactly where the residual is no multiple of `2^step`, or is too far from the

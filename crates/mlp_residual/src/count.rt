@@ -26,18 +26,31 @@ fn symbol_length(book: u8, symbol: u8) -> u32
     }
 }
 
+/// How many bits a code takes.
+#[inline]
+fn length_of(book: u8, b: u8, code: Code) -> u64
+    requires book { book ≤ 3 }
+    requires b { b < 32 }
+    requires symbol { code.symbol < symbols_of book }
+    ensures value { result ≡ length_of book b code }
+    ensures most { result ≤ 40 }
+{
+    u64::from(symbol_length(book, code.symbol)) + u64::from(b)
+}
+
 /// How many bits a residual takes, where it has a code.
 #[inline]
 fn bits_of_one(book: u8, b: u8, offset: i16, step: u8, residual: &i32) -> Option<u64>
     requires book { book ≤ 3 }
     requires b { b < 32 }
     requires step { step < 16 }
-    ensures some { IfSome result (λ n. (code : Code) × Spells book b offset step residual.now code × (n ≡ length_of book b code)) }
+    ensures some { IfSome result (λ n. (code : Code) ×
+        Spells book b offset step residual.now code × (n ≡ length_of book b code)) }
     ensures none { IfNone result ((code : Code) → Spells book b offset step residual.now code → ⊥) }
     ensures most { IfSome result (λ n. n ≤ 40) }
 {
     let code = code_of(book, b, offset, step, *residual)?;
-    Some(u64::from(symbol_length(book, code.symbol)) + u64::from(b))
+    Some(length_of(book, b, code))
 }
 
 /// How many bits the residuals take in all, in a book with `b` low bits, an offset and steps of `2^step`. There is no

@@ -7,7 +7,7 @@ ghost use Rattle.mlp_layout.specs.Combined.{flag, chosen, series};
 ghost use Rattle.mlp_layout.specs.Reading.{Gives};
 ghost use Rattle.mlp_books.specs.Books.{symbol_in};
 ghost use Rattle.mlp_residual.specs.Lookups.{AreLookups};
-ghost use Rattle.mlp_residual.specs.Frames.{bypass_bits, code, code_at, frame, coded_frames, IsCoded, GivesBehind};
+ghost use Rattle.mlp_residual.specs.Frames.{bypass_bits, code, codes_in, frame, coded_frames, IsCoded, GivesBehind};
 
 use crate::ahead::{Lookups, codes_near_end, lookups_of};
 use crate::runs::frames_ahead;
@@ -89,7 +89,7 @@ fn codes_by_fields(
 ) -> Result<(), Broken>
     requires coded { All IsCoded channels.now }
     requires same { length codes.old ≡ length channels.now }
-    ensures { Gives (λ _. codes.new) r.old r.new result ((series (code_at channels.now) (length channels.now) []).read r.old.all r.old.place) }
+    ensures { Gives (λ _. codes.new) r.old r.new result ((codes_in channels.now).read r.old.all r.old.place) }
 {
     for i in 0..channels.len() {
         codes[i] = read_code(channels[i], r)?;
@@ -108,7 +108,7 @@ fn read_codes(
     requires coded { All IsCoded channels.now }
     requires lookups { AreLookups channels.now lookups.now }
     requires same { length codes.old ≡ length channels.now }
-    ensures { Gives (λ _. codes.new) r.old r.new result ((series (code_at channels.now) (length channels.now) []).read r.old.all r.old.place) }
+    ensures { Gives (λ _. codes.new) r.old r.new result ((codes_in channels.now).read r.old.all r.old.place) }
 {
     let place = r.place();
     let bytes = r.bytes();
@@ -149,7 +149,8 @@ fn make_room_in_all(count: usize, frames: &mut [FrameCode])
 /// Makes room for so many codes in each frame, unless there is in the first: frames that were read together have as many.
 fn make_room_by_first(count: usize, frames: &mut [FrameCode])
     requires { count ≤ 8 }
-    ensures { (other : FrameCode) → 0 < length frames.new → array_vec_len (slice_index_or frames.new 0 other).codes ≡ count }
+    ensures { (other : FrameCode) → 0 < length frames.new →
+        array_vec_len (slice_index_or frames.new 0 other).codes ≡ count }
 {
     if let Some(first) = frames.first() {
         if first.codes.len() != count {
@@ -206,7 +207,8 @@ fn read_some(
 /// The frames, in place of as many others.
 fn read_over(coding: &Coding, r: &mut BitReader, out: &mut [FrameCode]) -> Result<(), Broken>
     requires coded { All IsCoded coding.now.channels.items }
-    ensures { Gives (λ _. out.new) r.old r.new result ((coded_frames coding.now (length out.old)).read r.old.all r.old.place) }
+    ensures { Gives (λ _. out.new) r.old r.new result
+        ((coded_frames coding.now (length out.old)).read r.old.all r.old.place) }
 {
     let lookups = lookups_of(&coding.channels);
     make_room_by_first(coding.channels.len(), out);
@@ -231,8 +233,9 @@ fn fill_up(count: usize, out: &mut ArrayVec<FrameCode, 160>)
 
 /// Reads so many frames behind the first `first` of those in `out`, in place of others or appended to them.
 ///
-/// A fault is `Code` or `SegmentShort` at the first place that has one; what stands behind the first `first` is of no use
-/// then.
+/// # Errors
+///
+/// `Code` or `SegmentShort` at the first place that has a fault; what stands behind the first `first` is of no use then.
 pub fn read_coded(
     coding: &Coding,
     first: usize,
@@ -245,7 +248,8 @@ pub fn read_coded(
     requires room { first + frames ≤ 160 }
     ensures enough { first + frames ≤ array_vec_len out.new }
     ensures rest { drop (first + frames) out.new.items ≡ drop (first + frames) out.old.items }
-    ensures read { GivesBehind (take first out.old.items) (take (first + frames) out.new.items) r.old r.new result ((coded_frames coding.now frames).read r.old.all r.old.place) }
+    ensures read { GivesBehind (take first out.old.items) (take (first + frames) out.new.items) r.old r.new result
+        ((coded_frames coding.now frames).read r.old.all r.old.place) }
 {
     let end = first + usize::from(frames);
     fill_up(end, out);

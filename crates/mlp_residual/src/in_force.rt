@@ -1,7 +1,7 @@
 //! How frames are coded by the parameters in force.
 ghost use Rattle.std.specs.Prelude.{◌≡◌, ◌-◌, ◌≤◌, All, IsTrue, length, map, take, drop};
 ghost use Rattle.mlp_params.specs.States.{IsState, IsChannelState};
-ghost use Rattle.mlp_residual.specs.Frames.{channel_codes, coding_of, steps_below, steps_fit, frames_of, IsCoded, GivesBehind};
+ghost use Rattle.mlp_residual.specs.Frames.{channel_codes, coding_of, steps_within, steps_fit, frames_of, IsCoded, GivesBehind};
 ghost use Rattle.std.specs.Prelude.{◌+◌};
 ghost use Rattle.arrayvec.specs.ArrayVec.{array_vec_len};
 
@@ -38,7 +38,7 @@ fn channel_code(channel: &ChannelState, step: u8) -> ChannelCode
 fn coded_channels(channels: &[ChannelState], steps: &[u8]) -> ArrayVec<ChannelCode, 8>
     requires count { length channels.now ≤ 8 }
     requires same { length steps.now ≡ length channels.now }
-    requires low { IsTrue (steps_below steps.now channels.now) }
+    requires low { IsTrue (steps_within steps.now channels.now) }
     requires states { All IsChannelState channels.now }
     ensures value { result.items ≡ channel_codes channels.now steps.now }
     ensures coded { All IsCoded result.items }
@@ -55,7 +55,7 @@ fn coded_from(least: usize, channels: &[ChannelState], steps: &[u8]) -> ArrayVec
     requires least { least ≤ length channels.now }
     requires count { length channels.now ≤ 8 }
     requires same { length steps.now ≡ length channels.now }
-    requires low { IsTrue (steps_below (drop least steps.now) (drop least channels.now)) }
+    requires low { IsTrue (steps_within (drop least steps.now) (drop least channels.now)) }
     requires states { All IsChannelState channels.now }
     ensures value { result.items ≡ channel_codes (drop least channels.now) (drop least steps.now) }
     ensures coded { All IsCoded result.items }
@@ -64,8 +64,8 @@ fn coded_from(least: usize, channels: &[ChannelState], steps: &[u8]) -> ArrayVec
 }
 
 /// Whether each channel from one on has at least as many low bits as its step.
-fn steps_below(least: usize, steps: &[u8], channels: &[ChannelState]) -> bool
-    ensures { result ≡ steps_below (drop least steps.now) (drop least channels.now) }
+fn steps_within(least: usize, steps: &[u8], channels: &[ChannelState]) -> bool
+    ensures { result ≡ steps_within (drop least steps.now) (drop least channels.now) }
 {
     for i in least..steps.len() {
         if i >= channels.len() {
@@ -82,7 +82,7 @@ fn steps_below(least: usize, steps: &[u8], channels: &[ChannelState]) -> bool
 pub fn steps_fit(state: &State) -> bool
     ensures { result ≡ steps_fit state.now }
 {
-    steps_below(state.restart.min as usize, &state.steps, &state.channels)
+    steps_within(state.restart.min as usize, &state.steps, &state.channels)
 }
 
 /// How the frames of a block are coded by the parameters in force.
@@ -102,8 +102,10 @@ pub fn coding_in_force(state: &State) -> Coding
 /// Reads so many frames by the parameters in force, behind the first `first` of those in `out`, in place of others or
 /// appended to them.
 ///
-/// A fault is `Code` at nine bits that are no code, or `SegmentShort` at a field whose bits aren't all there: the first
-/// such place. What stands behind the first `first` is of no use then.
+/// # Errors
+///
+/// `Code` at nine bits that are no code, or `SegmentShort` at a field whose bits aren't all there: the first such place.
+/// What stands behind the first `first` is of no use then.
 #[tactic(auto, unfolding(crate::specs::Frames::frames_of))]
 pub fn read_frames_behind(
     state: &State,
@@ -118,14 +120,18 @@ pub fn read_frames_behind(
     requires room { first + frames ≤ 160 }
     ensures enough { first + frames ≤ array_vec_len out.new }
     ensures rest { drop (first + frames) out.new.items ≡ drop (first + frames) out.old.items }
-    ensures read { GivesBehind (take first out.old.items) (take (first + frames) out.new.items) r.old r.new result ((frames_of state.now frames).read r.old.all r.old.place) }
+    ensures read { GivesBehind (take first out.old.items) (take (first + frames) out.new.items) r.old r.new result
+        ((frames_of state.now frames).read r.old.all r.old.place) }
 {
     let coding = coding_in_force(state);
     read_coded(&coding, first, frames, r, out)
 }
 
-/// Reads so many frames by the parameters in force and appends them. Faults are those of `read_frames_behind`: as many
-/// frames are appended then, and are of no use.
+/// Reads so many frames by the parameters in force and appends them.
+///
+/// # Errors
+///
+/// Those of `read_frames_behind`: as many frames are appended then, and are of no use.
 pub fn read_frames(
     state: &State,
     frames: u16,
@@ -136,7 +142,8 @@ pub fn read_frames(
     requires low { IsTrue (steps_fit state.now) }
     requires room { array_vec_len out.old + frames ≤ 160 }
     ensures count { length out.new.items ≡ length out.old.items + frames }
-    ensures read { GivesBehind out.old.items out.new.items r.old r.new result ((frames_of state.now frames).read r.old.all r.old.place) }
+    ensures read { GivesBehind out.old.items out.new.items r.old r.new result
+        ((frames_of state.now frames).read r.old.all r.old.place) }
 {
     let first = out.len();
     read_frames_behind(state, first, frames, r, out)

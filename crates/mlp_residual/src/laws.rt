@@ -4,15 +4,21 @@ ghost use Rattle.std.specs.Int.{w32};
 ghost use Rattle.mlp_syntax.specs.declared.segment.Code.{Code};
 ghost use Rattle.mlp_layout.specs.Layout.{IsLayout};
 ghost use Rattle.mlp_params.specs.declared.state.State.{State};
-ghost use Rattle.mlp_residual.specs.Coding.{Spells, residual_of, TakeBits};
+ghost use Rattle.mlp_residual.specs.Coding.{Spells, residual_of, code_with, TakeBits};
 ghost use Rattle.mlp_residual.specs.declared.frames.Coding.{Coding};
 ghost use Rattle.mlp_residual.specs.Frames.{coded_frames, frames_of};
 
-/// A residual has at most one code, of which it is the residual, and residuals take one number of bits.
+/// A residual has at most one code, of which it is the residual and which has a spelling, and residuals take one number
+/// of bits.
 pub fn law_codes()
-    ensures one { (book b step : ℕ) (offset residual : ℤ) (c d : Code) → Spells book b offset step residual c → Spells book b offset step residual d → c ≡ d }
-    ensures back { (book b step : ℕ) (offset residual : ℤ) (c : Code) → FitsSigned w32 residual → Spells book b offset step residual c → residual_of book b offset step c ≡ residual }
-    ensures bits { (book b step : ℕ) (offset : ℤ) (residuals : List ℤ) (m n : ℕ) → TakeBits book b offset step residuals m → TakeBits book b offset step residuals n → m ≡ n }
+    ensures one { (book b step : ℕ) (offset r : ℤ) (c d : Code) →
+        Spells book b offset step r c → Spells book b offset step r d → c ≡ d }
+    ensures back { (book b step : ℕ) (offset r : ℤ) (c : Code) →
+        FitsSigned w32 r → Spells book b offset step r c → residual_of book b offset step c ≡ r }
+    ensures spelled { (book b step : ℕ) (offset r : ℤ) (c : Code) →
+        Spells book b offset step r c → (code_with book b).Fits c }
+    ensures bits { (book b step : ℕ) (offset : ℤ) (rs : List ℤ) (m n : ℕ) →
+        TakeBits book b offset step rs m → TakeBits book b offset step rs n → m ≡ n }
 {}
 
 /// What is read as frames is spelled so, what is spelled so is read, and a fault is read exactly where it stands.

@@ -22,6 +22,3 @@ pub use in_force::{coding_in_force, read_frames, read_frames_behind, steps_fit};
 pub use laws::{law_codes, law_frames};
 pub use widths::bits_of_widths;
 pub use writing::{write_coded, write_frames};
-
-#[cfg(test)]
-mod tests;

@@ -1,8 +1,8 @@
 //! How many bits residuals take with several numbers of low bits.
 ghost use Rattle.std.specs.Prelude.{◌≡◌, ℕ, ◌+◌, ◌*◌, ◌<◌, ◌≤◌, ◌^◌, ℤ, pos, neg_ℤ, ◌+ℤ◌, ◌-ℤ◌, ◌*ℤ◌, ◌≤ℤ◌, List, [], None, true, false, length, map, slice_index_or, IfSome, IfNone};
-ghost use Rattle.mlp_residual.specs.Coding.{below_of, TakeBits, Counts};
+ghost use Rattle.mlp_residual.specs.Coding.{sign_offset, TakeBits, Counts};
 
-use crate::coding::{below_of, whole_of};
+use crate::coding::{sign_offset, whole_of};
 use arrayvec::ArrayVec;
 use mlp_books::lengths_in;
 
@@ -11,11 +11,11 @@ use mlp_books::lengths_in;
 fn base_of(book: u8, b: u8, offset: i16) -> i64
     requires book { book ≤ 3 }
     requires b { b < 32 }
-    ensures value { result ≡ pos (below_of book b) -ℤ offset }
+    ensures value { result ≡ pos (sign_offset book b) -ℤ offset }
     ensures least { neg_ℤ (pos 65536) ≤ℤ result }
     ensures most { result ≤ℤ pos 19327418368 }
 {
-    below_of(book, b) as i64 - i64::from(offset)
+    sign_offset(book, b) as i64 - i64::from(offset)
 }
 
 /// How many bits the code of a value takes, where it has one. The symbols have codes of these lengths, `b` low bits
@@ -25,8 +25,10 @@ fn bits_of_value(lengths: &[u8], b: u8, base: i64, value: &i32) -> Option<u64>
     requires b { b < 32 }
     requires least { neg_ℤ (pos 65536) ≤ℤ base }
     requires most { base ≤ℤ pos 19327418368 }
-    ensures some { IfSome result (λ n. (symbol : ℕ) × (low : ℕ) × (symbol < length lengths.now) × (low < 2 ^ b) × (value.now +ℤ base ≡ pos (symbol * 2 ^ b + low)) × (n ≡ slice_index_or lengths.now symbol 0 + b)) }
-    ensures none { IfNone result ((symbol low : ℕ) → symbol < length lengths.now → low < 2 ^ b → value.now +ℤ base ≡ pos (symbol * 2 ^ b + low) → ⊥) }
+    ensures some { IfSome result (λ n. (symbol : ℕ) × (low : ℕ) × (symbol < length lengths.now) × (low < 2 ^ b) ×
+        (value.now +ℤ base ≡ pos (symbol * 2 ^ b + low)) × (n ≡ slice_index_or lengths.now symbol 0 + b)) }
+    ensures none { IfNone result ((symbol low : ℕ) → symbol < length lengths.now → low < 2 ^ b →
+        value.now +ℤ base ≡ pos (symbol * 2 ^ b + low) → ⊥) }
     ensures small { IfSome result (λ n. n ≤ 286) }
 {
     let place = i64::from(*value) + base;
@@ -73,7 +75,8 @@ fn whole_values(step: u8, residuals: &[i32], values: &mut ArrayVec<i32, 160>) ->
     requires count { length residuals.now ≤ 160 }
     requires none { values.old.items ≡ [] }
     ensures all { result ≡ true → map (λ v. v *ℤ pos (2 ^ step)) values.new.items ≡ residuals.now }
-    ensures some { result ≡ false → (book b n : ℕ) (offset : ℤ) → TakeBits book b offset step residuals.now n → ⊥ }
+    ensures some { result ≡ false → (book b n : ℕ) (offset : ℤ) →
+        TakeBits book b offset step residuals.now n → ⊥ }
 {
     for residual in residuals {
         match whole_value(step, residual) {
@@ -90,7 +93,8 @@ fn bits_of_whole(whole: bool, book: u8, b: u8, offset: i16, values: &[i32]) -> O
     requires book { book ≤ 3 }
     requires b { b < 32 }
     requires count { length values.now ≤ 160 }
-    ensures whole { whole ≡ true → (step : ℕ) → Counts book b offset step (map (λ v. v *ℤ pos (2 ^ step)) values.now) result }
+    ensures whole { whole ≡ true → (step : ℕ) →
+        Counts book b offset step (map (λ v. v *ℤ pos (2 ^ step)) values.now) result }
     ensures not_whole { whole ≡ false → result ≡ None }
 {
     if whole {
@@ -116,7 +120,8 @@ pub fn bits_of_widths(
     requires step { step < 16 }
     requires count { length residuals.now ≤ 160 }
     ensures same { length out.new ≡ length out.old }
-    ensures counts { (i : ℕ) → i < length out.old → Counts book (least + i) offset step residuals.now (slice_index_or out.new i None) }
+    ensures counts { (i : ℕ) → i < length out.old →
+        Counts book (least + i) offset step residuals.now (slice_index_or out.new i None) }
 {
     let mut values: ArrayVec<i32, 160> = ArrayVec::new();
     let whole = whole_values(step, residuals, &mut values);

@@ -8,7 +8,7 @@ ghost use Rattle.mlp_layout.specs.Combined.{flag, chosen, series};
 ghost use Rattle.mlp_layout.specs.Writing.{Writes};
 ghost use Rattle.mlp_books.specs.Books.{symbol_in};
 ghost use Rattle.mlp_params.specs.States.{IsState};
-ghost use Rattle.mlp_residual.specs.Frames.{bypass_bits, code, code_at, frame, coded_frames, frames_of, steps_fit, IsCoded};
+ghost use Rattle.mlp_residual.specs.Frames.{bypass_bits, code, codes_in, frame, coded_frames, frames_of, steps_fit, IsCoded};
 
 use crate::frames::{ChannelCode, Coding};
 use crate::in_force::coding_in_force;
@@ -56,8 +56,8 @@ fn put_code(channel: ChannelCode, value: Code, w: &mut BitWriter) -> Result<(), 
 fn put_codes(channels: &[ChannelCode], codes: &[Code], w: &mut BitWriter) -> Result<(), Full>
     requires coded { All IsCoded channels.now }
     requires same { length codes.now ≡ length channels.now }
-    requires fits { (series (code_at channels.now) (length channels.now) []).Fits codes.now }
-    ensures { Writes w.old w.new result ((series (code_at channels.now) (length channels.now) []).spelling codes.now) }
+    requires fits { (codes_in channels.now).Fits codes.now }
+    ensures { Writes w.old w.new result ((codes_in channels.now).spelling codes.now) }
 {
     let _place = w.place();
     for i in 0..channels.len() {
@@ -77,6 +77,10 @@ fn put_frame(coding: &Coding, value: &FrameCode, w: &mut BitWriter) -> Result<()
 }
 
 /// Writes frames that fit their coding.
+///
+/// # Errors
+///
+/// `Full` exactly where the bits would pass 65,520.
 pub fn write_coded(coding: &Coding, frames: &[FrameCode], w: &mut BitWriter) -> Result<(), Full>
     requires coded { All IsCoded coding.now.channels.items }
     requires fits { (coded_frames coding.now (length frames.now)).Fits frames.now }
@@ -90,6 +94,10 @@ pub fn write_coded(coding: &Coding, frames: &[FrameCode], w: &mut BitWriter) -> 
 }
 
 /// Writes frames by the parameters in force, which they fit.
+///
+/// # Errors
+///
+/// `Full` exactly where the bits would pass 65,520.
 #[tactic(auto, unfolding(crate::specs::Frames::frames_of))]
 pub fn write_frames(state: &State, frames: &[FrameCode], w: &mut BitWriter) -> Result<(), Full>
     requires state { IsState state.now }

@@ -4,8 +4,12 @@
 #[cfg(test)]
 mod bits;
 #[cfg(test)]
+mod books;
+#[cfg(test)]
 mod layout;
 #[cfg(test)]
 mod major;
+#[cfg(test)]
+mod params;
 #[cfg(test)]
 mod unit;

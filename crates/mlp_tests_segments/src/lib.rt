@@ -1,2 +1,5 @@
 //! Tests of frames and substream segments. There is nothing here but tests.
 #![tactic(auto)]
+
+#[cfg(test)]
+mod residual;

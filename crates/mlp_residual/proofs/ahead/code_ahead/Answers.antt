@@ -8,7 +8,8 @@ pub returns-then-meaning : goal.returns-then-meaning
 returns-then-meaning c = record {
   read = λ left place all is enough room.
       let l = c.args.lookup in
-      let a = meaning_ahead (l.first / 512) l.first place (c.args.window / 2 ^ 55) _ c.args.window left all c.meanings.result.now c.requires.looked_up.book c.requires.looked_up.first (omega (arith, room)) (omega (arith, enough)) is refl c.meanings.ensures.each refl in
+      let a = meaning_ahead (l.table_start / 512) l.table_start place (c.args.window / 2 ^ 55) _ c.args.window left all c.meanings.result.now c.requires.looked_up.book c.requires.looked_up.table_start (omega (arith, room))
+      (omega (arith, enough)) is refl c.meanings.ensures.each refl in
       code_fails (channel_of l) all place _ (a.none (omega (arith, c.if-meaning.true)));
 }
 
@@ -16,8 +17,9 @@ pub returns : goal.returns
 returns c = record {
   read = λ left place all is enough room.
       let l = c.args.lookup in
-      let n = get_or c.meanings.result.now (l.first + c.args.window / 2 ^ 55) 0 in
-      let a = meaning_ahead (l.first / 512) l.first place (c.args.window / 2 ^ 55) n c.args.window left all c.meanings.result.now c.requires.looked_up.book c.requires.looked_up.first (omega (arith, room)) (omega (arith, enough)) is refl c.meanings.ensures.each refl in
+      let n = get_or c.meanings.result.now (l.table_start + c.args.window / 2 ^ 55) 0 in
+      let a = meaning_ahead (l.table_start / 512) l.table_start place (c.args.window / 2 ^ 55) n c.args.window left all c.meanings.result.now c.requires.looked_up.book c.requires.looked_up.table_start (omega (arith, room))
+      (omega (arith, enough)) is refl c.meanings.ensures.each refl in
       let lt : n < 65535 = omega arith in
       let taken = c.from.result + l.low in
       let low = masked c.rotate_left-behind.result l.low l.mask c.requires.looked_up.low c.requires.looked_up.mask ∙ ap (λ (w : ℕ). w % 2 ^ l.low) c.rotate_left-behind.ensures in

@@ -11,7 +11,7 @@ use Rattle.mlp_residual.proofs.AheadLaws.{planned_next, most_next}
 use Rattle.mlp_residual.proofs.ahead.codes_ahead.Goals as goal
 
 abbrev blank : Lookup
-blank = record { first = 0; low = 0; mask = 0; anew = false }
+blank = record { table_start = 0; low = 0; mask = 0; reload = false }
 
 pub overflow_add-end : goal.overflow_add-end
 overflow_add-end c =
@@ -19,7 +19,8 @@ overflow_add-end c =
     let ls = c.args.lookups.now in
     let n = planned_next i.left c.loop-i.i ls blank c.loop-i-test.true i.planned in
     let rest = most_next c.loop-i.i ls blank c.loop-i-test.true in
-    let read = c.in-Some.ensures.read (bits_for (get_or ls c.loop-i.i blank) i.left) c.loop-i.end (bits_of c.args.bytes.now) (c.window_for-window.ensures i.left i.window_is) n.enough (omega (arith, i.to, rest, length-bits_of c.args.bytes.now)) in
+    let read = c.in-Some.ensures.read (bits_for (get_or ls c.loop-i.i blank) i.left) c.loop-i.end (bits_of c.args.bytes.now) (c.window_for-window.ensures i.left i.window_is) n.enough
+    (omega (arith, i.to, rest, length-bits_of c.args.bytes.now)) in
     record { fits = omega (arith, i.to, rest, read.2) }
 
 pub returns-in-None-clause-read : goal.returns-in-None-clause-read
@@ -32,7 +33,8 @@ returns-in-None-clause-read c =
     let rest = most_next c.loop-i.i ls blank c.loop-i-test.true in
     let none = c.in-None.ensures.read (bits_for (get_or ls c.loop-i.i blank) i.left) c.loop-i.end all (c.window_for-window.ensures i.left i.window_is) n.enough (omega (arith, i.to, rest, length-bits_of c.args.bytes.now)) in
     let here : length (take c.loop-i.i c.loop-i.codes) ≡ c.loop-i.i = omega (arith, length-take c.loop-i.i c.loop-i.codes) in
-    rw c.broken.ensures (series_stops (code_at cs) (take c.loop-i.i c.loop-i.codes) (length ls) c.loop-i.i all c.loop-i.end _ _ c.loop-i-test.true (rw (here, get_or-map channel_of ls c.loop-i.i blank no_code c.loop-i-test.true) none) i.so_far)
+    rw c.broken.ensures (series_stops (code_at cs) (take c.loop-i.i c.loop-i.codes) (length ls) c.loop-i.i all c.loop-i.end _ _ c.loop-i-test.true
+    (rw (here, get_or-map channel_of ls c.loop-i.i blank no_code c.loop-i-test.true) none) i.so_far)
 
 pub loop-i-preserved : goal.loop-i-preserved
 loop-i-preserved c =
@@ -45,7 +47,8 @@ loop-i-preserved c =
     let rest = most_next c.loop-i.i ls blank c.loop-i-test.true in
     let read = c.in-Some.ensures.read (bits_for lookup i.left) c.loop-i.end all (c.window_for-window.ensures i.left i.window_is) n.enough (omega (arith, i.to, rest, length-bits_of c.args.bytes.now)) in
     let here : length (take c.loop-i.i c.loop-i.codes) ≡ c.loop-i.i = omega (arith, length-take c.loop-i.i c.loop-i.codes) in
-    let on = series_goes_on (code_at cs) (take c.loop-i.i c.loop-i.codes) (length ls) c.loop-i.i all c.loop-i.end (c.loop-i.end + c.in-Some.taken) c.code_ahead.new.out ((series (code_at cs) (length ls) []).read all c.args.place) c.loop-i-test.true (rw (here, get_or-map channel_of ls c.loop-i.i blank no_code c.loop-i-test.true) read.0) i.so_far in
+    let on = series_goes_on (code_at cs) (take c.loop-i.i c.loop-i.codes) (length ls) c.loop-i.i all c.loop-i.end (c.loop-i.end + c.in-Some.taken) c.code_ahead.new.out
+    ((series (code_at cs) (length ls) []).read all c.args.place) c.loop-i-test.true (rw (here, get_or-map channel_of ls c.loop-i.i blank no_code c.loop-i-test.true) read.0) i.so_far in
     record {
       left = bits_for lookup i.left - most_of lookup;
       window_is = read.1;

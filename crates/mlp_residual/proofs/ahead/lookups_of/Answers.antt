@@ -7,15 +7,15 @@ use Rattle.mlp_residual.specs.declared.frames.ChannelCode.{ChannelCode}
 use Rattle.mlp_residual.specs.Lookups.{most_of}
 use Rattle.mlp_residual.proofs.AheadLaws.{planned_more, planned_all, most_more}
 use Rattle.mlp_residual.proofs.ahead.lookups_of.Goals as goal
-use Rattle.mlp_residual.proofs.ahead.lookups_of.Goals.{then-anew, else-anew}
+use Rattle.mlp_residual.proofs.ahead.lookups_of.Goals.{then-reload, else-reload}
 
 pub loop-channel-preserved : goal.loop-channel-preserved
 loop-channel-preserved c =
     let i = c.loop-channel.invariant in
     let more = planned_more c.loop-channel.left c.left_behind-left.result c.loop-channel.lookups.items c.lookup_of-lookup.result i.planned c.lookup_of-lookup.ensures.enough c.left_behind-left.ensures.value in
     let one : c.most_of-most.result ≡ most_of c.lookup_of-lookup.result = c.most_of-most.ensures.value ∙ sym (ap (λ (k : ChannelCode). longest_in k.book + k.low) c.lookup_of-lookup.ensures.channel) in
-    let old : c.loop-channel.anew ≡ true → c.if-anew.anew ≡ true = λ h. elim c.if-anew.branch [ then-anew w ↦ w.anew-is ∙ h | else-anew w ↦ absurd (let is = w.if-anew.false in cc) ] in
-    let new : c.lookup_of-lookup.result.anew ≡ true → c.if-anew.anew ≡ true = λ h. elim c.if-anew.branch [ then-anew w ↦ w.anew-is ∙ w.if-anew.true | else-anew w ↦ w.anew-is ∙ h ] in
+    let old : c.loop-channel.reload ≡ true → c.if-reload.reload ≡ true = λ h. elim c.if-reload.branch [ then-reload w ↦ w.reload-is ∙ h | else-reload w ↦ absurd (let is = w.if-reload.false in cc) ] in
+    let new : c.lookup_of-lookup.result.reload ≡ true → c.if-reload.reload ≡ true = λ h. elim c.if-reload.branch [ then-reload w ↦ w.reload-is ∙ w.if-reload.true | else-reload w ↦ w.reload-is ∙ h ] in
     record {
       channels = grind (arith, common_steps);
       looked_up = grind (arith, common_steps);
@@ -23,7 +23,7 @@ loop-channel-preserved c =
       few = c.left_behind-left.ensures.few;
       most = rw (c.push.ensures.items, most_more c.loop-channel.lookups.items c.lookup_of-lookup.result) (omega (arith, i.most, one));
       small = omega (arith, i.small, c.most_of-most.ensures.most);
-      others = rw c.push.ensures.items (All-push (λ (k : Lookup). k.anew ≡ true → c.if-anew.anew ≡ true) c.loop-channel.lookups.items c.lookup_of-lookup.result (λ k d lt h. old (i.others k d lt h)) new);
+      others = rw c.push.ensures.items (All-push (λ (k : Lookup). k.reload ≡ true → c.if-reload.reload ≡ true) c.loop-channel.lookups.items c.lookup_of-lookup.result (λ k d lt h. old (i.others k d lt h)) new);
       planned = λ ls h. rw c.push.ensures.items (more ls h);
     }
 

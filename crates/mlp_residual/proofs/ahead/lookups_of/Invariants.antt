@@ -11,6 +11,6 @@ invariant-loop-channel l = record {
   few : l.left ≤ 57;
   most : l.most ≡ most_in l.lookups.items;
   small : l.most ≤ 40 * l.channel-index;
-  others : All (λ (k : Lookup). k.anew ≡ true → l.anew ≡ true) l.lookups.items;
+  others : All (λ (k : Lookup). k.reload ≡ true → l.reload ≡ true) l.lookups.items;
   planned : (ls : List Lookup) → Planned l.left ls → Planned 57 (l.lookups.items ++ ls);
 }

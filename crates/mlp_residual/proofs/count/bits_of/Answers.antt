@@ -17,7 +17,9 @@ loop-residual-preserved c =
     let h = c.in_ok-bits.ensures.some in
     let r = get_or c.args.residuals.now c.loop-residual.residual-index (pos 0) in
     record {
-      counted = counted_one c.args.book c.args.b (to_z w16 (of_z w16 c.args.offset)) c.args.step c.args.residuals.now (drop c.loop-residual.residual-index c.args.residuals.now) (drop (c.loop-residual.residual-index + 1) c.args.residuals.now) r c.loop-residual.bits c.in_ok-bits.field-0 (drop_more c.args.residuals.now c.loop-residual.residual-index (pos 0) c.loop-residual-test.true) (record { code = h.0; spells = h.1; bits = h.2 }) c.loop-residual.invariant.counted;
+      counted = counted_one c.args.book c.args.b (to_z w16 (of_z w16 c.args.offset)) c.args.step c.args.residuals.now (drop c.loop-residual.residual-index c.args.residuals.now)
+          (drop (c.loop-residual.residual-index + 1) c.args.residuals.now) r c.loop-residual.bits c.in_ok-bits.field-0 (drop_more c.args.residuals.now c.loop-residual.residual-index (pos 0) c.loop-residual-test.true)
+          (record { code = h.0; spells = h.1; bits = h.2 }) c.loop-residual.invariant.counted;
       small = omega (arith, c.in_ok-bits.ensures.most, c.loop-residual.invariant.small);
     }
 
@@ -27,4 +29,6 @@ returns-in_err-bits-clause-none c =
     let o : ℤ = c.args.offset in
     let e : to_z w16 (of_z w16 o) ≡ o = to_z-of_z w16 o c.ranges.offset in
     let r = get_or c.args.residuals.now c.loop-residual.residual-index (pos 0) in
-    rw c.from_residual.ensures (λ n t. counted_never c.args.book c.args.b (to_z w16 (of_z w16 c.args.offset)) c.args.step c.args.residuals.now (drop c.loop-residual.residual-index c.args.residuals.now) (drop (c.loop-residual.residual-index + 1) c.args.residuals.now) r c.loop-residual.bits (drop_more c.args.residuals.now c.loop-residual.residual-index (pos 0) c.loop-residual-test.true) h c.loop-residual.invariant.counted n (subst (λ (z : ℤ). TakeBits c.args.book c.args.b z c.args.step c.args.residuals.now n) (sym e) t))
+    rw c.from_residual.ensures (λ n t. counted_never c.args.book c.args.b (to_z w16 (of_z w16 c.args.offset)) c.args.step c.args.residuals.now (drop c.loop-residual.residual-index c.args.residuals.now)
+    (drop (c.loop-residual.residual-index + 1) c.args.residuals.now) r c.loop-residual.bits (drop_more c.args.residuals.now c.loop-residual.residual-index (pos 0) c.loop-residual-test.true) h
+    c.loop-residual.invariant.counted n (subst (λ (z : ℤ). TakeBits c.args.book c.args.b z c.args.step c.args.residuals.now n) (sym e) t))

@@ -23,7 +23,8 @@ loop-i-preserved c =
     let le : c.loop-i.i ≤ length c.loop-i.codes = omega arith in
     let lt : c.loop-i.i < length c.loop-i.codes = omega arith in
     let count : length (take c.loop-i.i c.loop-i.codes) ≡ c.loop-i.i = length-take-le c.loop-i.i c.loop-i.codes le in
-    let on = series_goes_on (code_at cs) (take c.loop-i.i c.loop-i.codes) (length cs) c.loop-i.i c.loop-i.r.all c.loop-i.r.place c.read_code.new.r.place c.in_ok-codes.field-0 ((series (code_at cs) (length cs) []).read c.args.r.now.all c.args.r.now.place) c.loop-i-test.true (rw count read.0) i.so_far in
+    let on = series_goes_on (code_at cs) (take c.loop-i.i c.loop-i.codes) (length cs) c.loop-i.i c.loop-i.r.all c.loop-i.r.place c.read_code.new.r.place c.in_ok-codes.field-0
+    ((series (code_at cs) (length cs) []).read c.args.r.now.all c.args.r.now.place) c.loop-i-test.true (rw count read.0) i.so_far in
     record { moved = omega (arith, i.moved, read.2); so_far = rw (take_more_set c.loop-i.codes c.loop-i.i c.in_ok-codes.field-0 lt, read.1) on; same_bits = read.1 ∙ i.same_bits }
 
 pub returns : goal.returns
@@ -31,5 +32,6 @@ returns c =
     let i = c.loop-i.invariant in
     let cs = c.args.channels.now in
     let le : length c.loop-i.codes ≤ c.loop-i.i = omega arith in
-    let done = series_is_done (code_at cs) (take c.loop-i.i c.loop-i.codes) (length cs) c.loop-i.i c.loop-i.r.all c.loop-i.r.place ((series (code_at cs) (length cs) []).read c.args.r.now.all c.args.r.now.place) c.loop-i-test.false i.so_far in
+    let done = series_is_done (code_at cs) (take c.loop-i.i c.loop-i.codes) (length cs) c.loop-i.i c.loop-i.r.all c.loop-i.r.place ((series (code_at cs) (length cs) []).read c.args.r.now.all c.args.r.now.place)
+    c.loop-i-test.false i.so_far in
     ((rw (take_all c.loop-i.i c.loop-i.codes le) at done), i.same_bits, i.moved)

@@ -27,16 +27,27 @@ looked_up lookups channels bits all p q read same here there h =
 pub skip-requires : goal.skip-requires
 skip-requires c =
     let most = ap most_in c.deref.ensures.0 in
-    omega (arith, most, c.requires.lookups.most, length-bits_of c.bytes-bytes.result.now, ap (λ t. length t) c.bytes-bytes.ensures.value, length-drop c.args.r.now.place c.args.r.now.all, c.in_ok-end.ensures.behind.1, c.place-place.ensures.value)
+    omega (
+      arith,
+      most,
+      c.requires.lookups.most,
+      length-bits_of c.bytes-bytes.result.now,
+      ap (λ t. length t) c.bytes-bytes.ensures.value,
+      length-drop c.args.r.now.place c.args.r.now.all,
+      c.in_ok-end.ensures.behind.1,
+      c.place-place.ensures.value,
+    )
 
 pub returns-in_err-end : goal.returns-in_err-end
 returns-in_err-end c =
     let p = err_from_is_err_and c.from_residual.result c.from_residual.ensures.1 in
-    rw (p.1, p.2) (looked_up c.deref.result.now c.args.channels.now (bits_of c.bytes-bytes.result.now) c.args.r.now.all c.place-place.result c.args.r.now.place (Err c.in_err-end.field-0.0) (ap (map channel_of) c.deref.ensures.0 ∙ c.requires.lookups.channels_are) c.bytes-bytes.ensures.value c.place-place.ensures.value c.in_err-end.ensures.read)
+    rw (p.1, p.2) (looked_up c.deref.result.now c.args.channels.now (bits_of c.bytes-bytes.result.now) c.args.r.now.all c.place-place.result c.args.r.now.place (Err c.in_err-end.field-0.0)
+    (ap (map channel_of) c.deref.ensures.0 ∙ c.requires.lookups.channels_are) c.bytes-bytes.ensures.value c.place-place.ensures.value c.in_err-end.ensures.read)
 
 pub returns : goal.returns
 returns c =
-    let read = looked_up c.deref.result.now c.args.channels.now (bits_of c.bytes-bytes.result.now) c.args.r.now.all c.place-place.result c.args.r.now.place (Ok (c.codes_near_end.new.codes, c.in_ok-end.end)) (ap (map channel_of) c.deref.ensures.0 ∙ c.requires.lookups.channels_are) c.bytes-bytes.ensures.value c.place-place.ensures.value c.in_ok-end.ensures.read in
+    let read = looked_up c.deref.result.now c.args.channels.now (bits_of c.bytes-bytes.result.now) c.args.r.now.all c.place-place.result c.args.r.now.place (Ok (c.codes_near_end.new.codes, c.in_ok-end.end))
+    (ap (map channel_of) c.deref.ensures.0 ∙ c.requires.lookups.channels_are) c.bytes-bytes.ensures.value c.place-place.ensures.value c.in_ok-end.ensures.read in
     let far : c.skip.new.self.place ≡ c.args.r.now.place + (c.in_ok-end.end - c.place-place.result) = ap (λ (r : Cursor). r.place) c.skip.ensures in
     let ends : c.in_ok-end.end ≡ c.skip.new.self.place = omega (arith, far, c.in_ok-end.ensures.behind.0, c.place-place.ensures.value) in
     (rw (← ends) read, ap (λ (r : Cursor). r.all) c.skip.ensures, omega (arith, far))

@@ -37,7 +37,8 @@ loop-done-preserved c =
     let here : n ≤ length ys = omega arith in
     let in_front : done ≤ length c.loop-done.out = omega arith in
     let few : n ≤ length c.args.out.now - done = omega (arith, length-take (length c.loop-done.out - done) (drop done c.loop-done.out), length-drop done c.loop-done.out) in
-    let on : SeriesContinues (λ _. frame k) (length c.args.out.now - done - n) (take done c.loop-done.out ++ take n ys) c.loop-done.r.all c.read_some.new.r.place total = series_appends (frame k) n (length c.args.out.now - done) (take done c.loop-done.out) (take n ys) c.loop-done.r.all c.loop-done.r.place c.read_some.new.r.place total few h i.so_far in
+    let on : SeriesContinues (λ _. frame k) (length c.args.out.now - done - n) (take done c.loop-done.out ++ take n ys) c.loop-done.r.all c.read_some.new.r.place total = series_appends (frame k) n
+    (length c.args.out.now - done) (take done c.loop-done.out) (take n ys) c.loop-done.r.all c.loop-done.r.place c.read_some.new.r.place total few h i.so_far in
     let left : length c.args.out.now - done - n ≡ length c.args.out.now - (done + n) = omega arith in
     let moved = c.in_ok-done.ensures.moved in
     record { within = omega arith; moved = omega (arith, i.moved, moved.1); so_far = rw (some_in_place done (length c.loop-done.out - done) n c.loop-done.out ys in_front here, moved.0, ← left) on; same_bits = moved.0 ∙ i.same_bits }
@@ -49,5 +50,6 @@ returns c =
     let k = c.args.coding.now in
     let le : length c.args.out.now ≤ c.loop-done.done = omega arith in
     let all : length c.loop-done.out ≤ c.loop-done.done = omega arith in
-    let whole = series_is_done (λ _. frame k) (take c.loop-done.done c.loop-done.out) (length c.args.out.now) c.loop-done.done c.loop-done.r.all c.loop-done.r.place ((series (λ _. frame k) (length c.args.out.now) []).read c.args.r.now.all c.args.r.now.place) le i.so_far in
+    let whole = series_is_done (λ _. frame k) (take c.loop-done.done c.loop-done.out) (length c.args.out.now) c.loop-done.done c.loop-done.r.all c.loop-done.r.place
+    ((series (λ _. frame k) (length c.args.out.now) []).read c.args.r.now.all c.args.r.now.place) le i.so_far in
     ((rw (take_all c.loop-done.done c.loop-done.out all) at whole), i.same_bits, i.moved)

@@ -15,10 +15,16 @@ returns-in_err-bits c =
     let i = c.loop-value.value-index in
     let v = get_or vs i (pos 0) in
     let base : ℤ = to_z w64 (of_z w64 c.base_of-base.result) in
-    let k : Scale c.args.book c.args.b z base c.lengths_in-lengths.result.now = record { above = to_z-of_z w64 c.base_of-base.result (omega (arith, ints, c.base_of-base.ensures.least, c.base_of-base.ensures.most)) ∙ c.base_of-base.ensures.value; each = c.lengths_in-lengths.ensures.each; fits = c.lengths_in-lengths.ensures.fits } in
+    let k : Scale c.args.book c.args.b z base c.lengths_in-lengths.result.now = record {
+      above = to_z-of_z w64 c.base_of-base.result (omega (arith, ints, c.base_of-base.ensures.least, c.base_of-base.ensures.most))
+          ∙ c.base_of-base.ensures.value;
+      each = c.lengths_in-lengths.ensures.each;
+      fits = c.lengths_in-lengths.ensures.fits;
+    } in
     rw c.from_residual.ensures (λ step n t.
     let all = map (stepped step) vs in
-    counted_never c.args.book c.args.b z step all (drop i all) (drop (i + 1) all) (stepped step v) c.loop-value.bits (map_next (stepped step) vs i c.loop-value-test.true) (value_never c.args.book c.args.b step z base v c.lengths_in-lengths.result.now k c.in_err-bits.ensures.none) (c.loop-value.invariant.counted step) n (subst (λ (y : ℤ). TakeBits c.args.book c.args.b y step all n) (sym e) t))
+    counted_never c.args.book c.args.b z step all (drop i all) (drop (i + 1) all) (stepped step v) c.loop-value.bits (map_next (stepped step) vs i c.loop-value-test.true)
+    (value_never c.args.book c.args.b step z base v c.lengths_in-lengths.result.now k c.in_err-bits.ensures.none) (c.loop-value.invariant.counted step) n (subst (λ (y : ℤ). TakeBits c.args.book c.args.b y step all n) (sym e) t))
 
 pub loop-value-preserved : goal.loop-value-preserved
 loop-value-preserved c =
@@ -28,11 +34,17 @@ loop-value-preserved c =
     let v = get_or vs i (pos 0) in
     let h = c.in_ok-bits.ensures.some in
     let base : ℤ = to_z w64 (of_z w64 c.base_of-base.result) in
-    let k : Scale c.args.book c.args.b z base c.lengths_in-lengths.result.now = record { above = to_z-of_z w64 c.base_of-base.result (omega (arith, ints, c.base_of-base.ensures.least, c.base_of-base.ensures.most)) ∙ c.base_of-base.ensures.value; each = c.lengths_in-lengths.ensures.each; fits = c.lengths_in-lengths.ensures.fits } in
+    let k : Scale c.args.book c.args.b z base c.lengths_in-lengths.result.now = record {
+      above = to_z-of_z w64 c.base_of-base.result (omega (arith, ints, c.base_of-base.ensures.least, c.base_of-base.ensures.most))
+          ∙ c.base_of-base.ensures.value;
+      each = c.lengths_in-lengths.ensures.each;
+      fits = c.lengths_in-lengths.ensures.fits;
+    } in
     record {
       counted = λ step.
           let all = map (stepped step) vs in
-          counted_one c.args.book c.args.b z step all (drop i all) (drop (i + 1) all) (stepped step v) c.loop-value.bits c.in_ok-bits.field-0 (map_next (stepped step) vs i c.loop-value-test.true) (value_takes c.args.book c.args.b step c.in_ok-bits.field-0 h.0 h.1 z base v c.lengths_in-lengths.result.now k h.2 h.3 h.4 h.5) (c.loop-value.invariant.counted step);
+          counted_one c.args.book c.args.b z step all (drop i all) (drop (i + 1) all) (stepped step v) c.loop-value.bits c.in_ok-bits.field-0 (map_next (stepped step) vs i c.loop-value-test.true)
+          (value_takes c.args.book c.args.b step c.in_ok-bits.field-0 h.0 h.1 z base v c.lengths_in-lengths.result.now k h.2 h.3 h.4 h.5) (c.loop-value.invariant.counted step);
       small = omega (arith, c.in_ok-bits.ensures.small, c.loop-value.invariant.small);
     }
 

@@ -27,7 +27,11 @@ returns-in_err-put_bit_if c =
     let i = c.loop-i.i in
     let xs = unpacked n v in
     let e = rw (← next_is rows n i v c.loop-i-test.true) at c.in_err-put_bit_if.ensures.err in
-    rw p.1 (record { ok = tt; err = series_filled (bypass_bit rows) xs i _ (omega (arith, length-unpacked n v, c.loop-i-test.true)) (sym (unpacked-at n i v _ c.loop-i-test.true)) c.args.w.now c.loop-i.w c.put_bit_if.new.w (series_text (bypass_bit rows) n xs) c.loop-i.invariant e })
+    rw p.1 (record {
+      ok = tt;
+      err = series_filled (bypass_bit rows) xs i _ (omega (arith, length-unpacked n v, c.loop-i-test.true)) (sym (unpacked-at n i v _ c.loop-i-test.true)) c.args.w.now c.loop-i.w c.put_bit_if.new.w
+          (series_text (bypass_bit rows) n xs) c.loop-i.invariant e;
+    })
 
 pub loop-i-preserved : goal.loop-i-preserved
 loop-i-preserved c =
@@ -37,7 +41,8 @@ loop-i-preserved c =
     let i = c.loop-i.i in
     let xs = unpacked n v in
     let e = rw (← next_is rows n i v c.loop-i-test.true) at c.in_ok-put_bit_if.ensures.ok in
-    series_wrote (bypass_bit rows) xs i _ (omega (arith, length-unpacked n v, c.loop-i-test.true)) (sym (unpacked-at n i v _ c.loop-i-test.true)) c.args.w.now c.loop-i.w c.put_bit_if.new.w (series_text (bypass_bit rows) n xs) c.loop-i.invariant e
+    series_wrote (bypass_bit rows) xs i _ (omega (arith, length-unpacked n v, c.loop-i-test.true)) (sym (unpacked-at n i v _ c.loop-i-test.true)) c.args.w.now c.loop-i.w c.put_bit_if.new.w (series_text (bypass_bit rows) n xs)
+    c.loop-i.invariant e
 
 pub returns : goal.returns
 unfolding bypass_bits seen

@@ -19,7 +19,11 @@ returns-in_err-put_symbol_in c =
     let p = err_from_is_err_and c.from_residual.result c.from_residual.ensures.1 in
     let text = (symbol_in c.args.channel.book).spelling c.args.value.symbol in
     let low = (number_of c.args.channel.low).spelling c.args.value.low in
-    rw p.1 (record { ok = tt; err = filled_as c.args.w.now c.put_symbol_in.new.w _ ((code c.args.channel).spelling c.args.value) (code_text c.args.channel c.args.value) (filled_first c.args.w.now c.put_symbol_in.new.w text low c.in_err-put_symbol_in.ensures.err) })
+    rw p.1 (record {
+      ok = tt;
+      err = filled_as c.args.w.now c.put_symbol_in.new.w _ ((code c.args.channel).spelling c.args.value) (code_text c.args.channel c.args.value)
+          (filled_first c.args.w.now c.put_symbol_in.new.w text low c.in_err-put_symbol_in.ensures.err);
+    })
 
 pub returns : goal.returns
 returns c =

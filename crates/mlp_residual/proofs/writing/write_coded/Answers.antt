@@ -26,14 +26,19 @@ returns-in_err-put_frame c =
     let p = err_from_is_err_and c.from_residual.result c.from_residual.ensures.1 in
     let k = c.args.coding.now in
     let fs = c.args.frames.now in
-    rw p.1 (record { ok = tt; err = series_filled (λ _. frame k) fs c.loop-i.i c.index-frames-i.result c.loop-i-test.true c.index-frames-i.is c.args.w.now c.loop-i.w c.put_frame.new.w (series_text (λ _. frame k) (length fs) fs) c.loop-i.invariant.so_far c.in_err-put_frame.ensures.err })
+    rw p.1 (record {
+      ok = tt;
+      err = series_filled (λ _. frame k) fs c.loop-i.i c.index-frames-i.result c.loop-i-test.true c.index-frames-i.is c.args.w.now c.loop-i.w c.put_frame.new.w
+          (series_text (λ _. frame k) (length fs) fs) c.loop-i.invariant.so_far c.in_err-put_frame.ensures.err;
+    })
 
 pub loop-i-preserved : goal.loop-i-preserved
 loop-i-preserved c =
     let k = c.args.coding.now in
     let fs = c.args.frames.now in
     record {
-      so_far = series_wrote (λ _. frame k) fs c.loop-i.i c.index-frames-i.result c.loop-i-test.true c.index-frames-i.is c.args.w.now c.loop-i.w c.put_frame.new.w (series_text (λ _. frame k) (length fs) fs) c.loop-i.invariant.so_far c.in_ok-put_frame.ensures.ok;
+      so_far = series_wrote (λ _. frame k) fs c.loop-i.i c.index-frames-i.result c.loop-i-test.true c.index-frames-i.is c.args.w.now c.loop-i.w c.put_frame.new.w (series_text (λ _. frame k) (length fs) fs)
+          c.loop-i.invariant.so_far c.in_ok-put_frame.ensures.ok;
       fits = (left_fits (λ _. frame k) fs c.loop-i.i c.index-frames-i.result c.loop-i-test.true c.index-frames-i.is c.loop-i.invariant.fits).1;
     }
 

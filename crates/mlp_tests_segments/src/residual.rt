@@ -1,14 +1,15 @@
-//! The values of codes and the parameters behind a restart are those that an independent reader of the format gives.
+//! Residuals and their codes. The values of codes and the parameters behind a restart are those that an independent reader of
+//! the format gives.
 ghost use Rattle.std.specs.Prelude.{◌≤◌, ◌<◌, length, IfSome};
 ghost use Rattle.mlp_params.specs.States.{IsState};
 
-use crate::{
-    ChannelCode, Coding, ResidualCoding, bits_of, bits_of_widths, code_of, coding_in_force,
-    law_codes, law_frames, read_coded, read_frames, residual, residuals, steps_fit,
-};
 use arrayvec::ArrayVec;
 use mlp_bits::BitReader;
 use mlp_params::{State, read_restart};
+use mlp_residual::{
+    ChannelCode, Coding, ResidualCoding, bits_of, bits_of_widths, code_of, coding_in_force,
+    law_codes, law_frames, read_coded, read_frames, residual, residuals, steps_fit,
+};
 use mlp_syntax::{Broken, Code, Field, FrameCode, Kind};
 
 #[test]
