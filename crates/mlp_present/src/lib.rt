@@ -11,6 +11,3 @@ mod segment;
 
 pub use decoder::Decoder;
 pub use refusal::Refusal;
-
-#[cfg(test)]
-mod tests;

@@ -24,6 +24,23 @@ fn decodes_units_in_any_pieces(rt: HostRuntime) -> Result<(), Fail> {
 }
 
 #[test]
+fn decodes_channels_in_either_order(rt: HostRuntime) -> Result<(), Fail> {
+    let alloc = rt.alloc();
+    // matrix channel 0 goes to output channel 1, and the restart's check is that of these bits; the padding may be anything
+    let mut unit = raw_unit(alloc)?;
+    unit[49] ^= 0x82;
+    unit[50] = 0x1A;
+    unit[293] = 0xFF;
+    let exchanged = run_over(alloc, WORDS, &unit, &WHOLE)?;
+    assert_eq!(rt; exchanged.status, 0);
+    assert_eq!(rt;
+        exchanged.output.get(..6),
+        Some([0xFF, 0xFF, 0xFF, 0x01, 0x00, 0x00].as_slice())
+    );
+    Ok(())
+}
+
+#[test]
 fn refuses_what_it_is_not_built_for(rt: HostRuntime) -> Result<(), Fail> {
     let alloc = rt.alloc();
     let unit = raw_unit(alloc)?;

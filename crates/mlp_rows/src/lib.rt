@@ -4,6 +4,8 @@
 #[cfg(test)]
 mod decode_raw;
 #[cfg(test)]
+mod memory;
+#[cfg(test)]
 mod runs;
 #[cfg(test)]
 mod streams;

@@ -3,13 +3,12 @@ use Rattle.std.proofs.Common.{◌≡◌, ℕ, zero, suc, ◌+◌, ◌<◌, ◌�
 use Rattle.std.proofs.lemmas.Bool.{cases_lt}
 use Rattle.std.proofs.lemmas.List.{append-nil, drop-append-le, nil_from_length}
 use Rattle.mlp_stream.specs.declared.refusal.Refusal.{Refusal}
-use Rattle.mlp_stream.specs.declared.stop.Stop.{Stop}
 use Rattle.mlp_stream.specs.declared.stop.Stop.TheVariants.{Refused, TooLong}
 use Rattle.mlp_stream.specs.Moves.{Move, Waits, Takes, Refuses, IsMove, TakesWithin, IsSession}
 use Rattle.mlp_stream.specs.Streams.{Outcome, after, stopped, run_for, on_move, at_end, outcome, soon, IsPrefix}
 
-abbrev with_output : Result Unit Stop → List ℕ → Outcome
-with_output end output = record { end = end; output = output }
+abbrev with_output : {S : Type 0} → Outcome S → List ℕ → Outcome S
+with_output o output = record { end = o.end; output = output; session = o.session }
 
 -- from s with these bytes, moves that put this out leave t with this rest
 pub data Went {S : Type 0} (step : S → Bool → List ℕ → Move S) (ended : Bool) : S → List ℕ → List ℕ → S → List ℕ → Type 0 where
@@ -22,7 +21,7 @@ module _ {S : Type 0} (step : S → Bool → List ℕ → Move S) (last : S → 
 
   -- it doesn't matter how many moves are allowed, if they are enough
   turns_move : (f g : ℕ) (ended : Bool) (s : S) (bytes : List ℕ) → ((t : S) (rest : List ℕ) → length rest < length bytes → run_for step last f ended t rest ≡ run_for step last g ended t rest) → (m : Move S) → TakesWithin count s bytes m
-      → on_move step last (λ t rest. run_for step last f ended t rest) bytes m ≡ on_move step last (λ t rest. run_for step last g ended t rest) bytes m
+      → on_move step last (λ t rest. run_for step last f ended t rest) s bytes m ≡ on_move step last (λ t rest. run_for step last g ended t rest) s bytes m
   turns_move f g ended s bytes same Waits w = refl
   turns_move f g ended s bytes same (Takes n out t) w = ap (after out) (same t (drop n bytes) (omega (arith, length-drop n bytes)))
   turns_move f g ended s bytes same (Refuses r) w = refl
@@ -36,10 +35,10 @@ module _ {S : Type 0} (step : S → Bool → List ℕ → Move S) (last : S → 
 
   -- the first move decides
   moves : (ended : Bool) (s : S) (bytes : List ℕ) (m : Move S) → step s ended bytes ≡ m → 0 < length bytes
-      → outcome step last ended s bytes ≡ on_move step last (λ t rest. run_for step last (length bytes) ended t rest) bytes m
+      → outcome step last ended s bytes ≡ on_move step last (λ t rest. run_for step last (length bytes) ended t rest) s bytes m
   unfolding outcome run_for
   moves ended s [] m e l = absurd (omega arith)
-  moves ended s (b ∷ bytes) m e l = ap (λ (x : Move S). on_move step last (λ t rest. run_for step last (suc (length bytes)) ended t rest) (b ∷ bytes) x) e
+  moves ended s (b ∷ bytes) m e l = ap (λ (x : Move S). on_move step last (λ t rest. run_for step last (suc (length bytes)) ended t rest) s (b ∷ bytes) x) e
 
   pub outcome-takes : (ended : Bool) (s : S) (bytes : List ℕ) (n : ℕ) (out : List ℕ) (t : S) → step s ended bytes ≡ Takes n out t → 0 < length bytes
       → outcome step last ended s bytes ≡ after out (outcome step last ended t (drop n bytes))
@@ -48,18 +47,18 @@ module _ {S : Type 0} (step : S → Bool → List ℕ → Move S) (last : S → 
       let w = takes s bytes ended n out t e in
       moves ended s bytes (Takes n out t) e l ∙ ap (after out) (turns (length bytes) (suc (length (drop n bytes))) ended t (drop n bytes) (omega (arith, length-drop n bytes, w.0, w.1)) (omega arith))
 
-  pub outcome-refuses : (ended : Bool) (s : S) (bytes : List ℕ) (r : Refusal) → step s ended bytes ≡ Refuses r → 0 < length bytes → outcome step last ended s bytes ≡ stopped (Refused r)
+  pub outcome-refuses : (ended : Bool) (s : S) (bytes : List ℕ) (r : Refusal) → step s ended bytes ≡ Refuses r → 0 < length bytes → outcome step last ended s bytes ≡ stopped s (Refused r)
   outcome-refuses ended s bytes r e l = moves ended s bytes (Refuses r) e l
 
-  pub outcome-waits : (ended : Bool) (s : S) (bytes : List ℕ) → step s ended bytes ≡ Waits → 0 < length bytes → outcome step last ended s bytes ≡ stopped TooLong
+  pub outcome-waits : (ended : Bool) (s : S) (bytes : List ℕ) → step s ended bytes ≡ Waits → 0 < length bytes → outcome step last ended s bytes ≡ stopped s TooLong
   outcome-waits ended s bytes e l = moves ended s bytes Waits e l
 
   pub outcome-nil : (ended : Bool) (s : S) → outcome step last ended s [] ≡ at_end step last ended s
   unfolding outcome run_for
   outcome-nil ended s = refl
 
-  after-after : (xs ys : List ℕ) (o : Outcome) → after xs (after ys o) ≡ after (xs ++ ys) o
-  after-after xs ys o = ap (with_output o.end) (sym (append_assoc xs ys o.output))
+  after-after : (xs ys : List ℕ) (o : Outcome S) → after xs (after ys o) ≡ after (xs ++ ys) o
+  after-after xs ys o = ap (with_output o) (sym (append_assoc xs ys o.output))
 
   with_put : {ended : Bool} {s t : S} {all put other rest : List ℕ} → put ≡ other → Went step ended s all put t rest → Went step ended s all other t rest
   with_put {ended = ended} {s = s} {t = t} {all = all} {rest = rest} e w = subst (λ (x : List ℕ). Went step ended s all x t rest) e w
@@ -101,8 +100,8 @@ module _ {S : Type 0} (step : S → Bool → List ℕ → Move S) (last : S → 
       → ((m : ℕ) → m ≤ length early → m ≡ n → IsPrefix (soon step last t (drop m early)) put)
       → (m : Move S) → step s false early ≡ m → Early s early (out ++ put)
   unfolding Early
-  early_move s bytes early late put n out t all e l go Waits d = (out ++ put, ap (λ (o : Outcome). o.output ++ (out ++ put)) (sym (outcome-waits false s early d l)))
-  early_move s bytes early late put n out t all e l go (Refuses r) d = (out ++ put, ap (λ (o : Outcome). o.output ++ (out ++ put)) (sym (outcome-refuses false s early r d l)))
+  early_move s bytes early late put n out t all e l go Waits d = (out ++ put, ap (λ (o : Outcome S). o.output ++ (out ++ put)) (sym (outcome-waits false s early d l)))
+  early_move s bytes early late put n out t all e l go (Refuses r) d = (out ++ put, ap (λ (o : Outcome S). o.output ++ (out ++ put)) (sym (outcome-refuses false s early r d l)))
   early_move s bytes early late put n out t all e l go (Takes m first u) d =
       let k = takes s early false m first u d in
       let same : step s true bytes ≡ Takes m first u = ap (λ (x : List ℕ). step s true x) all ∙ laws.settled s early late true (subst IsMove (sym d) tt) ∙ d in
@@ -110,13 +109,13 @@ module _ {S : Type 0} (step : S → Bool → List ℕ → Move S) (last : S → 
       let n_is : m ≡ n = cc in
       let out_is : first ≡ out = cc in
       let t_is : u ≡ t = cc in
-      let is : soon step last s early ≡ first ++ soon step last u (drop m early) = ap (λ (o : Outcome). o.output) (outcome-takes false s early m first u d l) in
+      let is : soon step last s early ≡ first ++ soon step last u (drop m early) = ap (λ (o : Outcome S). o.output) (outcome-takes false s early m first u d l) in
       let then : IsPrefix (soon step last u (drop m early)) put = subst (λ (x : S). IsPrefix (soon step last x (drop m early)) put) (sym t_is) (go m k.1 n_is) in
       subst (λ (x : List ℕ). IsPrefix x (out ++ put)) (ap (λ (x : List ℕ). x ++ soon step last u (drop m early)) (sym out_is) ∙ sym is) (IsPrefix-append out _ _ then)
 
   early_none : (s : S) (early put : List ℕ) → length early ≡ 0 → Early s early put
   unfolding Early
-  early_none s early put e = (put, subst (λ (x : List ℕ). put ≡ soon step last s x ++ put) (sym (nil_from_length early e)) (ap (λ (o : Outcome). o.output ++ put) (sym (outcome-nil false s))))
+  early_none s early put e = (put, subst (λ (x : List ℕ). put ≡ soon step last s x ++ put) (sym (nil_from_length early e)) (ap (λ (o : Outcome S). o.output ++ put) (sym (outcome-nil false s))))
 
   early_went : {s t : S} {all put rest : List ℕ} (early late : List ℕ) → Went step true s all put t rest → all ≡ early ++ late → length early + length rest ≤ length all → Early s early put
   unfolding Early

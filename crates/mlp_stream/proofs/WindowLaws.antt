@@ -1,14 +1,19 @@
 -- What a window has after each call.
-use Rattle.std.proofs.Common.{◌≡◌, ℕ, ◌+◌, ◌-◌, ◌<◌, ◌≤◌, min, ◌++◌, List, [], ◌∷◌, length, take, drop, get_or, Option, refl, sym, ap, subst, ◌∙◌, arith, length-drop, length-append, append-nil}
+use Rattle.std.proofs.Common.{◌≡◌, ℕ, ◌+◌, ◌-◌, ◌<◌, ◌≤◌, min, ◌++◌, List, [], ◌∷◌, length, take, drop, get_or, Option, refl, sym, ap, subst, ◌∙◌, arith, length-drop, length-append}
 use Rattle.std.proofs.lemmas.List.{drop-take, drop-drop, length-take, length-take-le, take_more}
-use Rattle.std.proofs.KnownBytes.{Consumes-nil}
 use Rattle.std.specs.Io.KnownBytes.{Consumes, IsAtEnd}
 use Rattle.mlp_stream.specs.declared.window.Rest.{Rest}
 use Rattle.mlp_stream.specs.declared.window.Rest.TheVariants.{More, Ended, Over}
-use Rattle.mlp_stream.specs.Sizes.{most_of_unit, window_room, limit}
+use Rattle.mlp_stream.specs.Sides.{Side}
+use Rattle.mlp_io.specs.Limit.{limit}
+use Rattle.mlp_stream.specs.Sizes.{most_of_unit, window_room}
 use Rattle.mlp_stream.specs.Held.{Held, RestIs, kept, Gave, GaveMore, Refills}
 use Rattle.mlp_io.proofs.Bytes.{take-put_end}
 use borrow.Rule.Slice.PartMut.{put_mid}
+
+-- a side with these bytes before and behind
+abbrev pub between : Option (List ℕ) → Option (List ℕ) → Side
+between before behind = record { before = before; behind = behind }
 
 pub skipped : (room : List ℕ) (start end count : ℕ) → count + start ≤ end → take (end - (start + count)) (drop (start + count) room) ≡ drop count (take (end - start) (drop start room))
 skipped room start end count le =
@@ -16,22 +21,6 @@ skipped room start end count le =
     let same : count + (end - (start + count)) ≡ end - start = omega arith in
     let cut : drop count (take (count + rest) (drop start room)) ≡ take rest (drop count (drop start room)) = drop-take count rest (drop start room) in
     sym (subst (λ (k : ℕ). drop count (take k (drop start room)) ≡ take rest (drop count (drop start room))) same cut ∙ ap (take rest) (drop-drop count start room))
-
-gave_none : (rest : Rest) (taken : ℕ) (a : Option (List ℕ)) → GaveMore rest rest taken a a []
-gave_none More taken a = Consumes-nil a
-gave_none Ended taken a = (refl, refl, refl)
-gave_none Over taken a = (refl, refl, refl)
-
--- nothing is wanted
-pub idle : (held : Held) (a : Option (List ℕ)) → (held.rest ≡ More → most_of_unit ≤ length held.bytes) → held.taken ≤ limit → Refills held held a a
-idle held a enough within = record {
-  got = [];
-  bytes = sym (append-nil held.bytes);
-  taken = omega arith;
-  gave = gave_none held.rest held.taken a;
-  ready = enough;
-  within = within;
-}
 
 -- so many bytes came
 pub gave : (rest : Rest) (taken before_taken count want : ℕ) (a b : Option (List ℕ)) (buf : List ℕ) → taken ≡ before_taken + count → before_taken ≤ limit → taken ≤ limit + 1 → count ≤ length buf → RestIs taken count want rest
@@ -72,7 +61,7 @@ kept_more Over count e = absurd cc
 filled : (old : Held) (room buf : List ℕ) (size count want k : ℕ) (rest : Rest) (a b : Option (List ℕ)) → old.rest ≡ More → old.taken ≤ limit → length old.bytes < most_of_unit
     → take size room ≡ old.bytes → size ≡ length old.bytes → size ≤ length room → length buf ≡ want → want ≡ min (window_room - size) (limit + 1 - old.taken)
     → count ≤ want → RestIs (old.taken + count) count want rest → Consumes a b (take count buf) → (count < want → IsAtEnd b)
-    → Refills old (record { bytes = take (size + kept rest count) (put_mid size k room buf); taken = old.taken + kept rest count; rest = rest }) a b
+    → Refills old (record { bytes = take (size + kept rest count) (put_mid size k room buf); taken = old.taken + kept rest count; rest = rest }) (between a b)
 filled old room buf size count want k rest a b more low short front size_is fits long want_is few is took end =
     let keeps = kept-le rest count in
     let got = take (kept rest count) buf in
@@ -82,7 +71,10 @@ filled old room buf size count want k rest a b more low short front size_is fits
       bytes = take-put_end room buf size (kept rest count) k fits (omega arith) ∙ ap (λ (x : List ℕ). x ++ got) front;
       taken = ap (λ (n : ℕ). old.taken + n) (sym got_long);
       gave = gave_more old.rest rest _ a b got more (gave rest (old.taken + count) old.taken count want a b buf refl low (omega arith) (omega arith) is took end);
-      ready = λ e. let all = kept_more rest count e in ready rest (old.taken + count) count want _ is (λ l w. omega (arith, ap length (take-put_end room buf size (kept rest count) k fits (omega arith) ∙ ap (λ (x : List ℕ). x ++ got) front), length-append old.bytes got)) e;
+      ready = λ e.
+          let all = kept_more rest count e in
+          let put = take-put_end room buf size (kept rest count) k fits (omega arith) ∙ ap (λ (x : List ℕ). x ++ got) front in
+          ready rest (old.taken + count) count want _ is (λ l w. omega (arith, ap length put, length-append old.bytes got)) e;
       within = kept-taken rest (old.taken + count) old.taken count want refl low (omega arith) is;
     }
 
@@ -94,7 +86,7 @@ pub refilled : (old : Held) (room after_front buf : List ℕ) (start end taken w
     → held (take (end - start) (drop start room)) taken before ≡ old → old.rest ≡ More → length old.bytes < most_of_unit → start ≤ end → end ≤ length room → taken ≤ limit
     → take (end - start) after_front ≡ take (end - start) (drop start room) → length after_front ≡ length room → length buf ≡ want → want ≡ min (window_room - (end - start)) (limit + 1 - taken)
     → count ≤ want → RestIs (taken + count) count want rest → keep ≡ kept rest count → Consumes a b (take count buf) → (count < want → IsAtEnd b)
-    → Refills old (record { bytes = take (end - start + keep - 0) (drop 0 (put_mid (end - start) k after_front buf)); taken = taken + keep; rest = rest }) a b
+    → Refills old (record { bytes = take (end - start + keep - 0) (drop 0 (put_mid (end - start) k after_front buf)); taken = taken + keep; rest = rest }) (between a b)
 refilled old room after_front buf start end taken want count keep k before rest a b view more short order fits low front same long want_is few is keep_is took last =
     let size = end - start in
     let bytes_is : take size (drop start room) ≡ old.bytes = ap (λ (h : Held). h.bytes) view in
@@ -102,7 +94,7 @@ refilled old room after_front buf start end taken want count keep k before rest 
     let size_is : size ≡ length old.bytes = omega (arith, ap length bytes_is, length-take size (drop start room), length-drop start room) in
     let all = filled old after_front buf size count want k rest a b more (omega arith) short (front ∙ bytes_is) size_is (omega arith) long (omega arith) few (subst (λ (t : ℕ). RestIs (t + count) count want rest) taken_is is) took last in
     let none : size + keep - 0 ≡ size + kept rest count = omega arith in
-    subst (λ (h : Held). Refills old h a b) (held_is none (sym keep_is) (sym taken_is)) all
+    subst (λ (h : Held). Refills old h (between a b)) (held_is none (sym keep_is) (sym taken_is)) all
   where
     held_is : {m n p q : ℕ} → m ≡ n → p ≡ q → old.taken ≡ taken → held (take n (put_mid (end - start) k after_front buf)) (old.taken + p) rest ≡ held (take m (drop 0 (put_mid (end - start) k after_front buf))) (taken + q) rest
     held_is e f t = cc

@@ -1,7 +1,9 @@
 -- What a window holds.
 use Rattle.std.specs.Prelude.{◌≡◌, ℕ, ◌+◌, ◌-◌, ◌<◌, ◌≤◌, List, [], ◌∷◌, ◌++◌, length, Option, Bool, true, false}
 use Rattle.std.specs.Io.KnownBytes.{Consumes, IsAtEnd}
-use Rattle.mlp_stream.specs.Sizes.{most_of_unit, window_room, limit}
+use Rattle.mlp_stream.specs.Sides.{Side}
+use Rattle.mlp_io.specs.Limit.{limit}
+use Rattle.mlp_stream.specs.Sizes.{most_of_unit, window_room}
 use Rattle.mlp_stream.specs.declared.window.Rest.{Rest}
 use Rattle.mlp_stream.specs.declared.window.Rest.TheVariants.{More, Ended, Over}
 
@@ -41,17 +43,18 @@ GaveMore Ended rest taken before now got = (rest ≡ Ended) × (got ≡ []) × (
 GaveMore Over rest taken before now got = (rest ≡ Over) × (got ≡ []) × (now ≡ before)
 
 -- the window took more bytes from an input: now it has enough for a unit, or the end or the limit is reached
-pub record Refills (old new : Held) (before now : Option (List ℕ)) : Type 0 where
+pub record Refills (old new : Held) (input : Side) : Type 0 where
   pub got : List ℕ
   pub bytes : new.bytes ≡ old.bytes ++ got
   pub taken : new.taken ≡ old.taken + length got
-  pub gave : GaveMore old.rest new.rest new.taken before now got
+  pub gave : GaveMore old.rest new.rest new.taken input.before input.behind got
   pub ready : new.rest ≡ More → most_of_unit ≤ length new.bytes
   pub within : new.taken ≤ limit
 
 -- the input failed behind these bytes
-pub record Fails (old : Held) (before now : Option (List ℕ)) : Type 0 where
+pub record Fails (old : Held) (input : Side) : Type 0 where
   pub got : List ℕ
-  pub gave : Consumes before now got
+  pub gave : Consumes input.before input.behind got
   pub room : length old.bytes + length got ≤ window_room
+  pub few : old.taken + length got ≤ limit + 1
   pub more : old.rest ≡ More

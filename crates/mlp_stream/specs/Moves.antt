@@ -34,10 +34,11 @@ TakesWithin count s next Waits = Unit {0}
 TakesWithin count s next (Takes n out t) = (0 < n) × (n ≤ length next) × (count t ≡ count s + 1)
 TakesWithin count s next (Refuses refusal) = Unit {0}
 
--- the laws of a session
+-- the laws of a session, at every value: a step guards itself against values that no session has
 pub record IsSession {S : Type 0} (step : S → Bool → List ℕ → Move S) (count : S → ℕ) : Type 0 where
   -- more bytes don't change what it does
-  pub settled : (s : S) (next more : List ℕ) (ended : Bool) → IsMove (step s false next) → step s ended (next ++ more) ≡ step s false next
+  pub settled : (s : S) (next more : List ℕ) (ended : Bool) → IsMove (step s false next)
+      → step s ended (next ++ more) ≡ step s false next
   -- it doesn't wait once it has the most bytes of a unit, or the end was seen
   pub enough : (s : S) (next : List ℕ) → most_of_unit ≤ length next → IsMove (step s false next)
   pub ends : (s : S) (next : List ℕ) → 0 < length next → IsMove (step s true next)

@@ -8,7 +8,3 @@ most_of_unit = 8190
 -- the most bytes that are taken from the input and not yet used
 abbrev pub window_room : ℕ
 window_room = 16380
-
--- the most bytes of an input
-abbrev pub limit : ℕ
-limit = 1099511627776

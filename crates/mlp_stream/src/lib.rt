@@ -2,13 +2,17 @@
 #![tactic(auto)]
 
 mod gather;
+mod growing;
 mod refusal;
 mod session;
+mod slice;
 mod stop;
 mod turns;
 mod window;
 
+pub use growing::GrowingSink;
 pub use refusal::Refusal;
 pub use session::Session;
+pub use slice::SliceSource;
 pub use stop::Stop;
 pub use turns::pump;

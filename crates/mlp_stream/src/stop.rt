@@ -1,19 +1,15 @@
-//! Why a run stops.
+//! Why the loop stops.
 use crate::refusal::Refusal;
 
-/// Why a run stops before the end. The loop itself never says that of the usage or of memory.
+/// Why the loop stops before the end.
 #[derive(Clone, Copy, Debug, PartialEq, Eq)]
 pub enum Stop {
-    /// The words are no plain form.
-    Usage,
     /// The session refuses the input.
     Refused(Refusal),
     /// A read failed.
     ReadFault,
     /// A write failed.
     WriteFault,
-    /// There is no memory for the work.
-    OutOfMemory,
-    /// The input, or what is made of it, is too long.
+    /// The input has more than 2^40 bytes, and up to there the session refuses nothing.
     TooLong,
 }

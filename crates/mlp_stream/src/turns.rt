@@ -1,12 +1,14 @@
 //! The loop.
 ghost use Rattle.std.specs.Prelude.{◌≡◌, ℕ, ◌+◌, ◌<◌, ◌≤◌, ◌^◌, ◌≢◌, [], false, IsTrue, IsFalse, length, take, Ok, Err, IfOk, IfErr, OnOk, OnErr};
 ghost use Rattle.std.specs.Io.KnownBytes.{Appends};
-ghost use Rattle.mlp_io.specs.Causes.{HasCause};
+ghost use Rattle.mlp_io.specs.Causes.{HasCause, IsCause};
 ghost use Rattle.mlp_stream.specs.Moves.{Move, said};
-ghost use Rattle.mlp_stream.specs.Sizes.{most_of_unit, limit};
+ghost use Rattle.mlp_stream.specs.Sides.{side};
+ghost use Rattle.mlp_io.specs.Limit.{limit};
+ghost use Rattle.mlp_stream.specs.Sizes.{most_of_unit};
 ghost use Rattle.mlp_stream.specs.Held.{is_ended, Refills};
 ghost use Rattle.mlp_stream.specs.Gathers.{Gathers};
-ghost use Rattle.mlp_stream.specs.Pumped.{Pumped, IsCause, IsInputStop, IsUnitStop, IsLastStop, is_read_fault, is_write_fault};
+ghost use Rattle.mlp_stream.specs.Pumped.{Pumped, IsInputStop, IsUnitStop, IsLastStop, is_read_fault, is_write_fault};
 
 use crate::gather::{Gathered, flush, gather, put};
 use crate::session::Session;
@@ -18,8 +20,10 @@ use mlp_syntax::UnitBytes;
 /// Whether the limit cuts the next unit off.
 fn is_cut<N: Session>(session: &N, window: &Window) -> bool
     requires { 0 < length window.now.bytes }
-    ensures cut { IsTrue result → (window.now.rest ≡ Rest.Over) × (N.step session.now false window.now.bytes ≡ Move.Waits) }
-    ensures whole { IsFalse result → window.now.rest ≡ Rest.Over → N.step session.now false window.now.bytes ≢ Move.Waits }
+    ensures cut { let next = N.step session.now false window.now.bytes in
+        IsTrue result → (window.now.rest ≡ Rest.Over) × (next ≡ Move.Waits) }
+    ensures whole { let next = N.step session.now false window.now.bytes in
+        IsFalse result → window.now.rest ≡ Rest.Over → next ≢ Move.Waits }
 {
     window.rest() == Rest::Over && session.waits(window.bytes())
 }
@@ -33,8 +37,10 @@ fn next_unit<N: Session>(
     requires some { 0 < length window.now.bytes }
     requires room { N.count session.old < limit }
     requires enough { window.now.rest ≡ Rest.More → most_of_unit ≤ length window.now.bytes }
-    ensures ok { IfOk result (λ n. N.step session.old (is_ended window.now.rest) window.now.bytes ≡ Move.Takes n out.new.items session.new) }
-    ensures err { IfErr result (λ stop. IsUnitStop (N.step session.old (is_ended window.now.rest) window.now.bytes) window.now.rest stop) }
+    ensures ok { let next = N.step session.old (is_ended window.now.rest) window.now.bytes in
+        IfOk result (λ n. next ≡ Move.Takes n out.new.items session.new) }
+    ensures err { let next = N.step session.old (is_ended window.now.rest) window.now.bytes in
+        IfErr result (λ stop. IsUnitStop next window.now.rest stop) }
 {
     if is_cut(session, window) {
         return Err(Stop::TooLong);
@@ -46,9 +52,9 @@ fn next_unit<N: Session>(
 }
 
 /// Ends the session at the end of the input.
-fn last_word<N: Session>(session: &mut N, rest: Rest, out: &mut UnitBytes) -> Result<(), Stop>
-    ensures ok { OnOk result ((rest ≢ Rest.Over) × (N.last session.old ≡ Ok out.new.items)) }
-    ensures err { IfErr result (λ stop. IsLastStop (N.last session.old) rest stop) }
+fn last_word<N: Session>(session: &N, rest: Rest, out: &mut UnitBytes) -> Result<(), Stop>
+    ensures ok { OnOk result ((rest ≢ Rest.Over) × (N.last session.now ≡ Ok out.new.items)) }
+    ensures err { IfErr result (λ stop. IsLastStop (N.last session.now) rest stop) }
 {
     if rest == Rest::Over {
         return Err(Stop::TooLong);
@@ -66,9 +72,12 @@ fn take_more<S: Source, K: Sink>(
     gathered: &mut Gathered,
     output: &mut K,
 ) -> Result<(), Stop>
-    ensures filled { OnOk result (Refills window.old window.new (S.left input.old) (S.left input.new)) }
-    ensures flushed { OnOk result (Gathers (K.written output.old) (K.written output.new) gathered.old.items [] gathered.new.items) }
-    ensures err { IfErr result (λ stop. IsInputStop window.old (S.left input.old) (S.left input.new) (K.written output.old) (K.written output.new) gathered.old.items stop) }
+    ensures filled { OnOk result (Refills window.old window.new (side S.left input.old input.new)) }
+    ensures flushed { let written = side K.written output.old output.new in
+        OnOk result (Gathers written gathered.old.items [] gathered.new.items) }
+    ensures err { let read = side S.left input.old input.new in
+        let written = side K.written output.old output.new in
+        IfErr result (λ stop. IsInputStop window.old read written gathered.old.items stop) }
     ensures read { IsCause (is_read_fault result) (S.faults input.old) (S.faults input.new) }
     ensures write { IsCause (is_write_fault result) (K.faults output.old) (K.faults output.new) }
 {
@@ -79,24 +88,30 @@ fn take_more<S: Source, K: Sink>(
     window.refill(input)
 }
 
-/// Runs a session over the whole input.
+/// Runs a session over the rest of an input, of which `taken` bytes were taken before. They count towards the limit of
+/// 2^40.
 ///
 /// What comes out is gathered, and written before more of the input is taken.
 ///
 /// # Errors
 ///
-/// The session's refusal, a fault of the input or the output, or that the input is too long.
+/// [`Stop::Refused`] with the session's refusal; [`Stop::ReadFault`] and [`Stop::WriteFault`] where a read or a write fails;
+/// [`Stop::TooLong`] where the input passes the limit and up to there the session refuses nothing.
 pub fn pump<S: Source, K: Sink, N: Session>(
     session: &mut N,
+    taken: u64,
     input: &mut S,
     output: &mut K,
 ) -> Result<(), Stop>
-    requires { N.count session.old ≡ 0 }
-    ensures pumped { Pumped N.step N.last session.old (S.left input.old) (S.left input.new) (K.written output.old) (K.written output.new) result }
+    requires new { N.count session.old ≡ 0 }
+    requires within { taken ≤ limit }
+    ensures pumped { let read = side S.left input.old input.new in
+        let written = side K.written output.old output.new in
+        Pumped N.step N.last taken session.old session.new read written result }
     ensures read { IsCause (is_read_fault result) (S.faults input.old) (S.faults input.new) }
     ensures write { IsCause (is_write_fault result) (K.faults output.old) (K.faults output.new) }
 {
-    let mut window = Window::new();
+    let mut window = Window::new(taken);
     let mut gathered = Gathered::new();
     let mut out = UnitBytes::new();
     'units: loop {

@@ -1,11 +1,13 @@
 //! A window on the input.
 ghost use Rattle.std.specs.Prelude.{◌≡◌, ℕ, ◌+◌, ◌-◌, ◌<◌, ◌≤◌, [], List, length, take, drop, OnOk, OnErr, IsErrOf, Err, IfErr, IsTrue, IsFalse};
 ghost use Rattle.mlp_io.specs.Causes.{HasCause};
-ghost use Rattle.mlp_stream.specs.Sizes.{most_of_unit, limit};
+ghost use Rattle.mlp_stream.specs.Sides.{side};
+ghost use Rattle.mlp_io.specs.Limit.{limit};
+ghost use Rattle.mlp_stream.specs.Sizes.{most_of_unit};
 ghost use Rattle.mlp_stream.specs.Held.{Held, Refills, Fails, RestIs, kept};
 
 use crate::stop::Stop;
-use mlp_io::{Source, fill};
+use mlp_io::{LIMIT, Source, fill};
 use std::marker::Model;
 
 /// The most bytes of an access unit.
@@ -13,9 +15,6 @@ const UNIT: usize = 8190;
 
 /// The room of a window: two access units.
 const ROOM: usize = 2 * UNIT;
-
-/// The most bytes of an input.
-const LIMIT: u64 = 1 << 40;
 
 /// Whether more bytes may come.
 #[derive(Clone, Copy, Debug, PartialEq, Eq)]
@@ -40,12 +39,14 @@ pub struct Window {
 
 impl Model for Window {
     ghost use Rattle.std.specs.Prelude.{◌≤◌, ◌-◌, take, drop};
-    ghost use Rattle.mlp_stream.specs.Sizes.{window_room, limit};
+    ghost use Rattle.mlp_io.specs.Limit.{limit};
+    ghost use Rattle.mlp_stream.specs.Sizes.{window_room};
     ghost use Rattle.mlp_stream.specs.Held.{Held};
 
     ghost Value = { Held };
 
-    ghost view = { λ w. record { bytes = take (w.end - w.start) (drop w.start w.room); taken = w.taken; rest = w.rest } };
+    ghost view = { λ w. let bytes = take (w.end - w.start) (drop w.start w.room) in
+        record { bytes = bytes; taken = w.taken; rest = w.rest } };
 
     ghost invariant = { λ w. (w.start ≤ w.end) × (w.end ≤ window_room) × (w.taken ≤ limit) };
 }
@@ -83,14 +84,16 @@ fn kept(rest: Rest, count: usize) -> usize
 }
 
 impl Window {
-    pub fn new() -> Window
-        ensures { result ≡ record { bytes = []; taken = 0; rest = Rest.More } }
+    /// An empty window on an input of which so many bytes were taken before.
+    pub fn new(taken: u64) -> Window
+        requires { taken ≤ limit }
+        ensures { result ≡ record { bytes = []; taken = taken; rest = Rest.More } }
     {
         Window {
             room: [0; ROOM],
             start: 0,
             end: 0,
-            taken: 0,
+            taken,
             rest: Rest::More,
         }
     }
@@ -126,8 +129,9 @@ impl Window {
     /// Takes bytes from the input, as many as there is room for.
     pub fn refill<S: Source>(&mut self, input: &mut S) -> Result<(), Stop>
         requires { (self.old.rest ≡ Rest.More) × (length self.old.bytes < most_of_unit) }
-        ensures ok { OnOk result (Refills self.old self.new (S.left input.old) (S.left input.new)) }
-        ensures err { IfErr result (λ stop. (stop ≡ Stop.ReadFault) × Fails self.old (S.left input.old) (S.left input.new)) }
+        ensures ok { OnOk result (Refills self.old self.new (side S.left input.old input.new)) }
+        ensures err { let read = side S.left input.old input.new in
+            IfErr result (λ stop. (stop ≡ Stop.ReadFault) × Fails self.old read) }
         ensures cause { HasCause (S.faults input.old) (S.faults input.new) result }
     {
         to_front(&mut self.room, self.start, self.end);

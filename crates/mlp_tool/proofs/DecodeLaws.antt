@@ -17,24 +17,26 @@ use Rattle.mlp_present.specs.Decoding.{Held, Taken, opened, next_of, is_open}
 use Rattle.mlp_present.proofs.FormLaws.{form_is}
 use Rattle.mlp_present.proofs.UnitMeaning.{count_of, synced, samples_on, FromUnit, from_unit, unit_within, begins_on, exists_from, FaultFrom, fault_from, NoneFrom, none_from, nothing_fails}
 use Rattle.mlp_stream.specs.declared.stop.Stop.{Stop}
-use Rattle.mlp_stream.specs.declared.stop.Stop.TheVariants.{Usage, Refused, ReadFault, WriteFault, OutOfMemory, TooLong}
+use Rattle.mlp_stream.specs.declared.stop.Stop.TheVariants.{Refused, ReadFault, WriteFault, TooLong}
 use Rattle.mlp_stream.specs.Moves.{Waits}
-use Rattle.mlp_stream.specs.Sizes.{limit}
-use Rattle.mlp_stream.specs.Streams.{Outcome, after as with_front, on_move, run_for, outcome, answer, soon, at_end}
+use Rattle.mlp_io.specs.Limit.{limit}
+use Rattle.mlp_stream.specs.Sides.{Side}
+use Rattle.mlp_stream.specs.Streams.{IsPrefix, Outcome, after as with_front, on_move, run_for, outcome, answer, soon, at_end}
 use Rattle.mlp_stream.specs.Pumped as pumped
 use Rattle.mlp_stream.specs.Pumped.{Pumped, IsAnswer}
 use Rattle.mlp_tool.specs.Pcm.{pcm_bytes, row_bytes}
 use Rattle.mlp_tool.specs.Decoding.{on_unit, decode_step, decode_last}
+use Rattle.mlp_tool.specs.Run.{TakesFew}
 use Rattle.mlp_tool.specs.Decoded.{pcm_of, IsThere, Opens, IsDecided, Broke, Answers, Answer, Wrote, Decoded}
 
 -- the decoder behind these units
 abbrev pub behind : ℕ → List RawUnit → Held
 behind k us = record { k = k; left = left_after first_form start us; refusal = None }
 
-abbrev goes : ℕ → Bool → Held → List ℕ → Outcome
+abbrev goes : ℕ → Bool → Held → List ℕ → Outcome Held
 goes turns ended s rest = run_for decode_step decode_last turns ended s rest
 
-abbrev Says : Bool → ℕ → List ℕ → List RawUnit → Outcome → Type 0
+abbrev Says : Bool → ℕ → List ℕ → List RawUnit → Outcome Held → Type 0
 Says ended k bytes us o = Answers ended k bytes o.end (pcm_of us ++ o.output)
 
 left_of : List RawUnit → Left
@@ -150,14 +152,14 @@ at_the_end true k bytes (u ∷ us) b =
 
 -- by what comes of the next unit
 on_next : (ended : Bool) (k : ℕ) (bytes : List ℕ) (us : List RawUnit) (turns : ℕ) (rest : List ℕ) → 0 < length rest → Opens k bytes us rest → IsDecided ended rest → Later ended k bytes us turns rest → (r : Result Taken Declined) → next_of k (left_after first_form start us) rest ≡ r
-    → Says ended k bytes us (on_move decode_step decode_last (λ t later. goes turns ended t later) rest (on_unit (behind k us) r))
+    → Says ended k bytes us (on_move decode_step decode_last (λ t later. goes turns ended t later) (behind k us) rest (on_unit (behind k us) r))
 unfolding Later
 on_next ended k bytes us turns rest some b d go (Ok t) e = go t e
 on_next ended k bytes us turns rest some b d go (Err (declined.Fault fault)) e = fails_here ended k bytes us rest fault some b d (fault_from k (left_after first_form start us) rest fault e)
 on_next ended k bytes us turns rest some b d go (Err (declined.NoPresentation n)) e = none_here ended k bytes us rest n b d (none_from k (left_after first_form start us) rest n e)
 
 on_step : (ended : Bool) (k : ℕ) (bytes : List ℕ) (us : List RawUnit) (turns : ℕ) (rest : List ℕ) → 0 < length rest → Opens k bytes us rest → Later ended k bytes us turns rest → (opens : Bool) → is_open rest ≡ opens
-    → Says ended k bytes us (on_move decode_step decode_last (λ t later. goes turns ended t later) rest (if not ended && opens then Waits else on_unit (behind k us) (next_of k (left_after first_form start us) rest)))
+    → Says ended k bytes us (on_move decode_step decode_last (λ t later. goes turns ended t later) (behind k us) rest (if not ended && opens then Waits else on_unit (behind k us) (next_of k (left_after first_form start us) rest)))
 on_step true k bytes us turns rest some b go opens e = on_next true k bytes us turns rest some b (inl refl) go _ refl
 on_step false k bytes us turns rest some b go true e = (refl, (us, rest, b, e, append-nil (pcm_of us)))
 on_step false k bytes us turns rest some b go false e = on_next false k bytes us turns rest some b (inr e) go _ refl
@@ -167,7 +169,7 @@ later_says : (ended : Bool) (k : ℕ) (bytes : List ℕ) (us : List RawUnit) (tu
     → Says ended k bytes us (with_front (pcm_bytes 2 t.rows) (goes turns ended (record { k = k; left = t.left; refusal = None }) (drop t.size rest)))
 later_says ended k bytes us turns rest t f next =
     let at = subst (λ (l : Left). Answers ended k bytes (goes turns ended (record { k = k; left = l; refusal = None }) (drop t.size rest)).end (pcm_of (us ++ f.unit ∷ []) ++ (goes turns ended (record { k = k; left = l; refusal = None }) (drop t.size rest)).output)) (sym (left_on us rest t f)) next in
-    let now : Outcome = goes turns ended (record { k = k; left = t.left; refusal = None }) (drop t.size rest) in
+    let now : Outcome Held = goes turns ended (record { k = k; left = t.left; refusal = None }) (drop t.size rest) in
     let joined : pcm_of (us ++ f.unit ∷ []) ++ now.output ≡ pcm_of us ++ (pcm_bytes 2 t.rows ++ now.output) = ap (λ (l : List ℕ). l ++ now.output) (pcm_on us rest t f) ∙ append_assoc (pcm_of us) (pcm_bytes 2 t.rows) now.output in
     subst (Answers ended k bytes now.end) joined at
 
@@ -199,23 +201,28 @@ answer_is k all = record {
   past = λ lt. rw (lt-leb (length all) limit lt) (says false k (take limit all));
 }
 
-answered : (k : ℕ) (input : Option (List ℕ)) (end : Result Unit Stop) (put : List ℕ) → IsAnswer decode_step decode_last (opened k) input end put → IfSome input (λ all. Answer k all end put)
+answered : (k : ℕ) (input : Option (List ℕ)) (end : Result Unit Stop) (put : List ℕ) → IsAnswer decode_step decode_last 0 (opened k) input end put → IfSome input (λ all. Answer k all end put)
 answered k None end put a = tt
-answered k (Some all) end put a = subst (λ (o : Outcome). Answer k all o.end o.output) a (answer_is k all)
+answered k (Some all) end put a = subst (λ (e : Result Unit Stop). Answer k all e put) a.0 (subst (Answer k all (answer decode_step decode_last limit (opened k) all).end) a.1 (answer_is k all))
 
-wrote : (k : ℕ) (input left : Option (List ℕ)) (taken put : List ℕ) (end : Result Unit Stop) → pumped.Says decode_step decode_last (opened k) input left taken put end → Wrote k input left taken put end
-wrote k input left taken put (Ok x) s = (s.0, answered k input (Ok tt) put s.1)
-wrote k input left taken put (Err Usage) s = s
-wrote k input left taken put (Err (Refused r)) s = answered k input (Err (Refused r)) put s
-wrote k input left taken put (Err ReadFault) s = (
+write_fault : (k : ℕ) (input : Option (List ℕ)) (put : List ℕ) → IfSome input (λ all. IsPrefix put (answer decode_step decode_last limit (opened k) all).output)
+    → IfSome input (λ all. (end : Result Unit Stop) × (output : List ℕ) × Answer k all end output × IsPrefix put output)
+write_fault k None put s = tt
+write_fault k (Some all) put s = ((answer decode_step decode_last limit (opened k) all).end, (answer decode_step decode_last limit (opened k) all).output, answer_is k all, s)
+
+wrote : (k : ℕ) (input : Side) (taken put : List ℕ) (t : Held) (end : Result Unit Stop) → pumped.Says decode_step decode_last 0 (opened k) input taken put t end → Wrote k input taken put end
+wrote k input taken put t (Ok x) s = (s.0, answered k input.before (Ok tt) put s.1)
+wrote k input taken put t (Err (Refused r)) s = answered k input.before (Err (Refused r)) put s
+wrote k input taken put t (Err ReadFault) s = (
   (soon decode_step decode_last (opened k) taken, record { end = _; is = says false k taken }, s.sure),
   λ early late e l. (soon decode_step decode_last (opened k) early, record { end = _; is = says false k early }, s.prompt early late e l),
 )
-wrote k None left taken put (Err WriteFault) s = tt
-wrote k (Some all) left taken put (Err WriteFault) s = ((answer decode_step decode_last limit (opened k) all).end, (answer decode_step decode_last limit (opened k) all).output, answer_is k all, s)
-wrote k input left taken put (Err OutOfMemory) s = s
-wrote k input left taken put (Err TooLong) s = answered k input (Err TooLong) put s
+wrote k input taken put t (Err WriteFault) s = write_fault k input.before put s
+wrote k input taken put t (Err TooLong) s = answered k input.before (Err TooLong) put s
 
 -- what a run of the session says, in the terms of streams
-pub decoded : (k : ℕ) (input left written now : Option (List ℕ)) (end : Result Unit Stop) → Pumped decode_step decode_last (opened k) input left written now end → Decoded k input left written now end
-decoded k input left written now end p = record { taken = p.taken; put = p.put; reads = p.reads; writes = p.writes; wrote = wrote k input left p.taken p.put end p.says }
+pub decoded : (k : ℕ) (input output : Side) (t : Held) (end : Result Unit Stop) → Pumped decode_step decode_last 0 (opened k) t input output end → Decoded k input output end
+decoded k input output t end p = record { taken = p.taken; put = p.put; reads = p.reads; writes = p.writes; wrote = wrote k input p.taken p.put t end p.says }
+
+pub takes_few : (k : ℕ) (input output : Side) (t : Held) (end : Result Unit Stop) → Pumped decode_step decode_last 0 (opened k) t input output end → TakesFew input
+takes_few k input output t end p = (p.taken, p.reads, omega (arith, p.few))

@@ -13,8 +13,8 @@ use Rattle.mlp_present.proofs.FormLaws.{form_is, one_reading}
 use Rattle.mlp_present.proofs.Closed.{outer_whole}
 use Rattle.mlp_stream.specs.declared.refusal.Refusal.TheVariants as refused
 use Rattle.mlp_stream.specs.declared.stop.Stop.{Stop}
-use Rattle.mlp_stream.specs.declared.stop.Stop.TheVariants.{Usage, Refused, ReadFault, WriteFault, OutOfMemory, TooLong}
-use Rattle.mlp_stream.specs.Sizes.{limit}
+use Rattle.mlp_stream.specs.declared.stop.Stop.TheVariants.{Refused, ReadFault, WriteFault, TooLong}
+use Rattle.mlp_io.specs.Limit.{limit}
 use Rattle.mlp_tool.specs.Decoded.{pcm_of, Opens, IsDecided, Broke, Answers, Answer}
 use Rattle.mlp_tool.specs.Laws.{HasOneAnswer}
 use Rattle.mlp_tool.proofs.DecodeLaws.{open_same, answer_is}
@@ -28,7 +28,6 @@ data Verdict (ended : Bool) (k : ℕ) (bytes : List ℕ) : Result Unit Stop → 
 
 verdict : (ended : Bool) (k : ℕ) (bytes : List ℕ) (end : Result Unit Stop) (xs : List ℕ) → Answers ended k bytes end xs → Verdict ended k bytes end xs
 verdict ended k bytes (Ok x) xs a = plays a.1.0 a.0 a.1.1 a.1.2
-verdict ended k bytes (Err Usage) xs a = absurd a
 verdict ended k bytes (Err (Refused (refused.Fault fault))) xs a = breaks fault a
 verdict ended k bytes (Err (Refused (refused.Pcm fault))) xs a = absurd a
 verdict ended k bytes (Err (Refused (refused.NoRoom unit))) xs a = absurd a
@@ -38,7 +37,6 @@ verdict ended k bytes (Err (Refused (refused.NoRestart unit))) xs a = absurd a
 verdict ended k bytes (Err (Refused (refused.NotThere units))) xs a = absurd a
 verdict ended k bytes (Err ReadFault) xs a = absurd a
 verdict ended k bytes (Err WriteFault) xs a = absurd a
-verdict ended k bytes (Err OutOfMemory) xs a = absurd a
 verdict ended k bytes (Err TooLong) xs a = waits a.1.0 a.1.1 a.0 a.1.2 a.1.3 a.1.4
 
 -- of two lists of units that the bits begin with, the longer has a unit behind the shorter

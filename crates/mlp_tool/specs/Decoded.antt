@@ -1,5 +1,5 @@
 -- What `decode-raw` makes of an input: which bytes are a stream, and where others break.
-use Rattle.std.specs.Prelude.{◌≡◌, ℕ, ◌<◌, ◌≤◌, ◌⊎◌, Bool, true, false, List, [], ◌∷◌, ◌++◌, length, take, Result, Ok, Err, Option, IfSome}
+use Rattle.std.specs.Prelude.{◌≡◌, ℕ, ◌<◌, ◌≤◌, ◌⊎◌, Bool, true, false, List, [], ◌∷◌, ◌++◌, length, take, Result, Ok, Err, IfSome}
 use Rattle.std.specs.Io.KnownBytes.{Consumes, Appends, IsAtEnd}
 use Rattle.mlp_syntax.specs.declared.fault.Fault.{Fault}
 use Rattle.mlp_bits.specs.Bits.{bits_of}
@@ -9,8 +9,10 @@ use Rattle.mlp_present.specs.Samples.{samples}
 use Rattle.mlp_present.specs.Decoding.{is_open}
 use Rattle.mlp_stream.specs.declared.refusal.Refusal.TheVariants as refused
 use Rattle.mlp_stream.specs.declared.stop.Stop.{Stop}
-use Rattle.mlp_stream.specs.declared.stop.Stop.TheVariants.{Usage, Refused, ReadFault, WriteFault, OutOfMemory, TooLong}
-use Rattle.mlp_stream.specs.Sizes.{window_room, limit}
+use Rattle.mlp_stream.specs.declared.stop.Stop.TheVariants.{Refused, ReadFault, WriteFault, TooLong}
+use Rattle.mlp_stream.specs.Sides.{Side}
+use Rattle.mlp_io.specs.Limit.{limit}
+use Rattle.mlp_stream.specs.Sizes.{window_room}
 use Rattle.mlp_stream.specs.Streams.{IsPrefix}
 use Rattle.mlp_tool.specs.Pcm.{pcm_bytes}
 
@@ -43,7 +45,6 @@ pub record Broke (ended : Bool) (k : ℕ) (bytes : List ℕ) (fault : Fault) (ou
 -- what a decoder of presentation k answers to these bytes, where they are all (true) or may go on (false), and what comes out
 abbrev pub Answers : Bool → ℕ → List ℕ → Result Unit Stop → List ℕ → Type 0
 Answers ended k bytes (Ok _) output = (ended ≡ true) × ((units : List RawUnit) × Stream first_form start k (bits_of bytes) units × (output ≡ pcm_of units))
-Answers ended k bytes (Err Usage) output = ⊥
 Answers ended k bytes (Err (Refused (refused.Fault fault))) output = Broke ended k bytes fault output
 Answers ended k bytes (Err (Refused (refused.Pcm fault))) output = ⊥
 Answers ended k bytes (Err (Refused (refused.NoRoom unit))) output = ⊥
@@ -53,7 +54,6 @@ Answers ended k bytes (Err (Refused (refused.NoRestart unit))) output = ⊥
 Answers ended k bytes (Err (Refused (refused.NotThere units))) output = ⊥
 Answers ended k bytes (Err ReadFault) output = ⊥
 Answers ended k bytes (Err WriteFault) output = ⊥
-Answers ended k bytes (Err OutOfMemory) output = ⊥
 Answers ended k bytes (Err TooLong) output = (ended ≡ false) × ((units : List RawUnit) × (rest : List ℕ) × Opens k bytes units rest × (is_open rest ≡ true) × (output ≡ pcm_of units))
 
 -- the answer to an input: past the limit nothing is looked at
@@ -67,20 +67,18 @@ pub record Soon (k : ℕ) (bytes output : List ℕ) : Type 0 where
   pub is : Answers false k bytes end output
 
 -- what the output got, by the end
-abbrev pub Wrote : ℕ → Option (List ℕ) → Option (List ℕ) → List ℕ → List ℕ → Result Unit Stop → Type 0
-Wrote k input left taken put (Ok _) = IsAtEnd left × IfSome input (λ all. Answer k all (Ok tt) put)
-Wrote k input left taken put (Err Usage) = ⊥
-Wrote k input left taken put (Err (Refused r)) = IfSome input (λ all. Answer k all (Err (Refused r)) put)
-Wrote k input left taken put (Err ReadFault) = ((sure : List ℕ) × Soon k taken sure × IsPrefix put sure)
+abbrev pub Wrote : ℕ → Side → List ℕ → List ℕ → Result Unit Stop → Type 0
+Wrote k input taken put (Ok _) = IsAtEnd input.behind × IfSome input.before (λ all. Answer k all (Ok tt) put)
+Wrote k input taken put (Err (Refused r)) = IfSome input.before (λ all. Answer k all (Err (Refused r)) put)
+Wrote k input taken put (Err ReadFault) = ((sure : List ℕ) × Soon k taken sure × IsPrefix put sure)
     × ((early late : List ℕ) → taken ≡ early ++ late → window_room ≤ length late → (sure : List ℕ) × Soon k early sure × IsPrefix sure put)
-Wrote k input left taken put (Err WriteFault) = IfSome input (λ all. (end : Result Unit Stop) × (output : List ℕ) × Answer k all end output × IsPrefix put output)
-Wrote k input left taken put (Err OutOfMemory) = ⊥
-Wrote k input left taken put (Err TooLong) = IfSome input (λ all. Answer k all (Err TooLong) put)
+Wrote k input taken put (Err WriteFault) = IfSome input.before (λ all. (end : Result Unit Stop) × (output : List ℕ) × Answer k all end output × IsPrefix put output)
+Wrote k input taken put (Err TooLong) = IfSome input.before (λ all. Answer k all (Err TooLong) put)
 
 -- the input lost the bytes taken, and the output gained the bytes put
-pub record Decoded (k : ℕ) (input left written now : Option (List ℕ)) (end : Result Unit Stop) : Type 0 where
+pub record Decoded (k : ℕ) (input output : Side) (end : Result Unit Stop) : Type 0 where
   pub taken : List ℕ
   pub put : List ℕ
-  pub reads : Consumes input left taken
-  pub writes : Appends written now put
-  pub wrote : Wrote k input left taken put end
+  pub reads : Consumes input.before input.behind taken
+  pub writes : Appends output.before output.behind put
+  pub wrote : Wrote k input taken put end

@@ -1,28 +1,42 @@
 -- What a run says.
-use Rattle.std.specs.Prelude.{◌≡◌, ℕ, List, take, Result, Err, Option, Some, None}
-use Rattle.std.specs.Io.KnownBytes.{Appends}
+use Rattle.std.specs.Prelude.{◌≡◌, ℕ, ◌+◌, ◌≤◌, List, length, take, Result, Ok, Err, Option, Some, None}
+use Rattle.std.specs.Io.KnownBytes.{Consumes, Appends}
 use Rattle.mlp_io.specs.Causes.{Rose}
 use Rattle.mlp_stream.specs.declared.stop.Stop.{Stop}
-use Rattle.mlp_stream.specs.declared.stop.Stop.TheVariants.{Usage}
+use Rattle.mlp_stream.specs.Sides.{Side}
+use Rattle.mlp_io.specs.Limit.{limit}
+use Rattle.mlp_tool.specs.declared.failure.Failure.{Failure}
+use Rattle.mlp_tool.specs.declared.failure.Failure.TheVariants.{Usage, Stopped}
 use Rattle.mlp_tool.specs.declared.words.Command.{Command}
 use Rattle.mlp_tool.specs.declared.words.Command.TheVariants.{DecodeRaw}
 use Rattle.mlp_tool.specs.Words.{plain, presentation_in}
 use Rattle.mlp_tool.specs.Lines.{status_of, line_of}
 use Rattle.mlp_tool.specs.Decoded.{Decoded}
 
+-- the end of the work on an input is one of the run
+abbrev pub end_of : Result Unit Stop → Result Unit Failure
+end_of (Ok _) = Ok tt
+end_of (Err stop) = Err (Stopped stop)
+
 -- what a command makes of an input and an output; where there is none, both are left alone
-abbrev pub Does : Option Command → Option (List ℕ) → Option (List ℕ) → Option (List ℕ) → Option (List ℕ) → Result Unit Stop → Type 0
-Does None input left written now end = (end ≡ Err Usage) × (left ≡ input) × (now ≡ written)
-Does (Some (DecodeRaw presentation)) input left written now end = Decoded presentation input left written now end
+abbrev pub Does : Option Command → Side → Side → Result Unit Failure → Type 0
+Does None input output end = (end ≡ Err Usage) × (input.behind ≡ input.before) × (output.behind ≡ output.before)
+Does (Some (DecodeRaw presentation)) input output end =
+    (stop : Result Unit Stop) × (end ≡ end_of stop) × Decoded presentation input output stop
+
+-- no more bytes were taken than one past the limit
+abbrev pub TakesFew : Side → Type 0
+TakesFew input = (taken : List ℕ) × Consumes input.before input.behind taken × (length taken ≤ limit + 1)
 
 -- a line was told: the front of it, and the whole unless a fault came
-pub record Told (line : List ℕ) (before now : ℕ) (written told : Option (List ℕ)) : Type 0 where
-  pub front : (n : ℕ) × Appends written told (take n line)
-  pub whole : (Rose before now → ⊥) → Appends written told line
+pub record Told (line : List ℕ) (before now : ℕ) (errors : Side) : Type 0 where
+  pub front : (n : ℕ) × Appends errors.before errors.behind (take n line)
+  pub whole : (Rose before now → ⊥) → Appends errors.before errors.behind line
 
 -- what a run of these words makes of an input, of an output and of a place for lines, which has these counts of faults
-pub record Ran (words : List (List ℕ)) (input left written now : Option (List ℕ)) (before later : ℕ) (lines told : Option (List ℕ)) (status : ℕ) : Type 0 where
-  pub end : Result Unit Stop
+pub record Ran (words : List (List ℕ)) (input output errors : Side) (before now : ℕ) (status : ℕ) : Type 0 where
+  pub end : Result Unit Failure
   pub status_is : status ≡ status_of end
-  pub does : Does (plain words) input left written now end
-  pub tells : Told (line_of (presentation_in (plain words)) end) before later lines told
+  pub does : Does (plain words) input output end
+  pub few : TakesFew input
+  pub tells : Told (line_of (presentation_in (plain words)) end) before now errors

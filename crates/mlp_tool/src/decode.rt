@@ -73,7 +73,7 @@ impl Session for Decode {
         }
     }
 
-    fn end(&mut self, out: &mut UnitBytes) -> Result<(), Refusal> {
+    fn end(&self, out: &mut UnitBytes) -> Result<(), Refusal> {
         out.clear();
         match self.decoder.end() {
             Ok(()) => Ok(()),

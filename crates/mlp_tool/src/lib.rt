@@ -2,6 +2,7 @@
 #![tactic(auto)]
 
 mod decode;
+mod failure;
 pub mod laws;
 mod line;
 mod pcm;
@@ -9,6 +10,7 @@ mod top;
 mod words;
 
 pub use decode::Decode;
+pub use failure::Failure;
 pub use line::{Line, line_of, status_of};
 pub use top::run;
 pub use words::{Command, plain};

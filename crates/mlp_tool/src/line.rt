@@ -1,8 +1,9 @@
 //! The line that a run tells at its end, and its status.
 ghost use Rattle.std.specs.Prelude.{◌≡◌, ◌+◌, ◌≤◌, ◌++◌, [], length, codes, decimal};
 ghost use Rattle.mlp_syntax.specs.Field.{name_of};
-ghost use Rattle.mlp_tool.specs.Lines.{refusal_status, status_of, wave_name, profile_name, pcm_name, refusal_line, line_of};
+ghost use Rattle.mlp_tool.specs.Lines.{refusal_status, stop_status, status_of, wave_name, profile_name, pcm_name, fault_line, no_room_line, missing_line, refusal_line, stop_line, line_of};
 
+use crate::failure::Failure;
 use arrayvec::ArrayVec;
 use itoa::Buffer;
 use mlp_stream::{Refusal, Stop};
@@ -65,7 +66,7 @@ fn profile_name(fault: ProfileFault) -> &'static [u8]
 
 fn push_fault(line: &mut Line, fault: &Fault)
     requires { line.old.items ≡ [] }
-    ensures { line.new.items ≡ codes "bad stream: unit " ++ decimal fault.now.unit ++ codes ", substream " ++ decimal fault.now.substream ++ codes ", " ++ name_of fault.now.field ++ codes ", bit " ++ decimal fault.now.bit ++ codes "\n" }
+    ensures { line.new.items ≡ fault_line fault.now }
 {
     push(line, b"bad stream: unit ");
     push_number(line, fault.unit);
@@ -110,7 +111,7 @@ fn push_pcm(line: &mut Line, fault: &PcmFault)
 
 fn push_missing(line: &mut Line, wanted: u8, have: u8)
     requires { line.old.items ≡ [] }
-    ensures { line.new.items ≡ codes "no presentation: " ++ decimal wanted ++ codes " of " ++ decimal have ++ codes "\n" }
+    ensures { line.new.items ≡ missing_line wanted have }
 {
     push(line, b"no presentation: ");
     push_number(line, u64::from(wanted));
@@ -121,7 +122,7 @@ fn push_missing(line: &mut Line, wanted: u8, have: u8)
 
 fn push_no_room(line: &mut Line, unit: u64, bytes: u32)
     requires { line.old.items ≡ [] }
-    ensures { line.new.items ≡ codes "no schedule: unit " ++ decimal unit ++ codes ", " ++ decimal bytes ++ codes " bytes\n" }
+    ensures { line.new.items ≡ no_room_line unit bytes }
 {
     push(line, b"no schedule: unit ");
     push_number(line, unit);
@@ -172,34 +173,51 @@ fn refusal_status(refusal: &Refusal) -> u8
     }
 }
 
+fn stop_status(stop: &Stop) -> u8
+    ensures { result ≡ stop_status stop.now }
+{
+    match stop {
+        Stop::Refused(refusal) => refusal_status(refusal),
+        Stop::ReadFault => 5,
+        Stop::WriteFault => 6,
+        Stop::TooLong => 9,
+    }
+}
+
 /// The status of an end.
-pub fn status_of(end: &Result<(), Stop>) -> u8
+pub fn status_of(end: &Result<(), Failure>) -> u8
     ensures { result ≡ status_of end.now }
 {
     match end {
         Ok(()) => 0,
-        Err(Stop::Refused(refusal)) => refusal_status(refusal),
-        Err(Stop::Usage) => 2,
-        Err(Stop::ReadFault) => 5,
-        Err(Stop::WriteFault) => 6,
-        Err(Stop::OutOfMemory) => 7,
-        Err(Stop::TooLong) => 9,
+        Err(Failure::Usage) => 2,
+        Err(Failure::OutOfMemory) => 7,
+        Err(Failure::Stopped(stop)) => stop_status(stop),
+    }
+}
+
+fn push_stop(line: &mut Line, presentation: u8, stop: &Stop)
+    requires { line.old.items ≡ [] }
+    ensures { line.new.items ≡ stop_line presentation stop.now }
+{
+    match stop {
+        Stop::Refused(refusal) => push_refusal(line, presentation, refusal),
+        Stop::ReadFault => push(line, b"read fault\n"),
+        Stop::WriteFault => push(line, b"write fault\n"),
+        Stop::TooLong => push(line, b"too long\n"),
     }
 }
 
 /// The line of an end, for a presentation, with its line feed.
-pub fn line_of(presentation: u8, end: &Result<(), Stop>) -> Line
+pub fn line_of(presentation: u8, end: &Result<(), Failure>) -> Line
     ensures { result.items ≡ line_of presentation end.now }
 {
     let mut line = Line::new();
     match end {
         Ok(()) => {}
-        Err(Stop::Refused(refusal)) => push_refusal(&mut line, presentation, refusal),
-        Err(Stop::Usage) => push(&mut line, b"usage\n"),
-        Err(Stop::ReadFault) => push(&mut line, b"read fault\n"),
-        Err(Stop::WriteFault) => push(&mut line, b"write fault\n"),
-        Err(Stop::OutOfMemory) => push(&mut line, b"out of memory\n"),
-        Err(Stop::TooLong) => push(&mut line, b"too long\n"),
+        Err(Failure::Usage) => push(&mut line, b"usage\n"),
+        Err(Failure::OutOfMemory) => push(&mut line, b"out of memory\n"),
+        Err(Failure::Stopped(stop)) => push_stop(&mut line, presentation, stop),
     }
     line
 }

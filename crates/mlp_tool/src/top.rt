@@ -1,11 +1,15 @@
 //! The top call.
 ghost use Rattle.std.specs.Prelude.{◌≡◌, ◌==◌, ◌≤◌, map, string_bytes};
-ghost use Rattle.mlp_stream.specs.Pumped.{IsCause, is_read_fault, is_write_fault};
+ghost use Rattle.mlp_io.specs.Causes.{IsCause};
+ghost use Rattle.mlp_stream.specs.Sides.{side};
+ghost use Rattle.mlp_stream.specs.Pumped.{is_read_fault, is_write_fault};
 ghost use Rattle.mlp_tool.specs.Decoded.{Decoded};
 ghost use Rattle.mlp_tool.specs.Words.{presentation_in};
-ghost use Rattle.mlp_tool.specs.Run.{Does, Told, Ran};
+ghost use Rattle.mlp_tool.specs.Lines.{status_of};
+ghost use Rattle.mlp_tool.specs.Run.{Does, TakesFew, Told, Ran};
 
 use crate::decode::Decode;
+use crate::failure::Failure;
 use crate::line::{line_of, status_of};
 use crate::words::{Command, plain};
 use mlp_io::{Sink, Source, put_all};
@@ -15,12 +19,15 @@ use std::alloc::Global;
 /// Decodes a presentation from 0 to 2.
 fn decode<S: Source, K: Sink>(presentation: u8, input: &mut S, output: &mut K) -> Result<(), Stop>
     requires { presentation ≤ 2 }
-    ensures decoded { Decoded presentation (S.left input.old) (S.left input.new) (K.written output.old) (K.written output.new) result }
+    ensures decoded { let read = side S.left input.old input.new in
+        let written = side K.written output.old output.new in
+        Decoded presentation read written result }
+    ensures few { TakesFew (side S.left input.old input.new) }
     ensures read { IsCause (is_read_fault result) (S.faults input.old) (S.faults input.new) }
     ensures write { IsCause (is_write_fault result) (K.faults output.old) (K.faults output.new) }
 {
     let mut session = Decode::open(presentation);
-    pump(&mut session, input, output)
+    pump(&mut session, 0, input, output)
 }
 
 /// Does what a command says, where there is one.
@@ -28,21 +35,28 @@ fn work<S: Source, K: Sink>(
     command: &Option<Command>,
     input: &mut S,
     output: &mut K,
-) -> Result<(), Stop>
+) -> Result<(), Failure>
     requires { presentation_in command.now ≤ 2 }
-    ensures does { Does command.now (S.left input.old) (S.left input.new) (K.written output.old) (K.written output.new) result }
-    ensures read { IsCause (is_read_fault result) (S.faults input.old) (S.faults input.new) }
-    ensures write { IsCause (is_write_fault result) (K.faults output.old) (K.faults output.new) }
+    ensures does { let read = side S.left input.old input.new in
+        let written = side K.written output.old output.new in
+        Does command.now read written result }
+    ensures few { TakesFew (side S.left input.old input.new) }
+    ensures read { IsCause (status_of result == 5) (S.faults input.old) (S.faults input.new) }
+    ensures write { IsCause (status_of result == 6) (K.faults output.old) (K.faults output.new) }
 {
     match command {
-        None => Err(Stop::Usage),
-        Some(Command::DecodeRaw { presentation }) => decode(*presentation, input, output),
+        None => Err(Failure::Usage),
+        Some(Command::DecodeRaw { presentation }) => match decode(*presentation, input, output) {
+            Ok(()) => Ok(()),
+            Err(stop) => Err(Failure::Stopped(stop)),
+        },
     }
 }
 
 /// Tells a line, as far as that goes.
 fn tell<E: Sink>(errors: &mut E, line: &[u8])
-    ensures { Told line.now (E.faults errors.old) (E.faults errors.new) (E.written errors.old) (E.written errors.new) }
+    ensures { let told = side E.written errors.old errors.new in
+        Told line.now (E.faults errors.old) (E.faults errors.new) told }
 {
     let _ = put_all(errors, line);
 }
@@ -58,7 +72,24 @@ fn presentation_in(command: &Option<Command>) -> u8
 
 /// Runs the words over an input and an output, tells the line of the end to `errors`, and answers its status.
 ///
-/// No command takes memory from `alloc` yet.
+/// No command takes memory from `alloc` yet. A run takes at most one byte more than 2^40 from the input.
+///
+/// # Errors
+///
+/// | status | the run |
+/// |---|---|
+/// | 0 | did its work |
+/// | 1 | met bytes that break a rule of the stream's format |
+/// | 2 | has words of no plain form |
+/// | 3 | met PCM, or a header or profile of it, that can't be encoded |
+/// | 4 | met an access unit that has no schedule |
+/// | 5 | met a read that failed |
+/// | 6 | met a write that failed |
+/// | 7 | found no memory for its work |
+/// | 8 | met a stream that hasn't the presentation |
+/// | 9 | met more than 2^40 bytes |
+/// | 10 | met a sample with a low byte that 16 bits don't hold |
+/// | 11 | met a stream that can't be cut there |
 pub fn run<S: Source, K: Sink, E: Sink>(
     alloc: Global,
     words: &[String],
@@ -66,7 +97,10 @@ pub fn run<S: Source, K: Sink, E: Sink>(
     output: &mut K,
     errors: &mut E,
 ) -> u8
-    ensures ran { Ran (map string_bytes words.now) (S.left input.old) (S.left input.new) (K.written output.old) (K.written output.new) (E.faults errors.old) (E.faults errors.new) (E.written errors.old) (E.written errors.new) result }
+    ensures ran { let read = side S.left input.old input.new in
+        let written = side K.written output.old output.new in
+        let told = side E.written errors.old errors.new in
+        Ran (map string_bytes words.now) read written told (E.faults errors.old) (E.faults errors.new) result }
     ensures read { IsCause (result == 5) (S.faults input.old) (S.faults input.new) }
     ensures write { IsCause (result == 6) (K.faults output.old) (K.faults output.new) }
 {
