@@ -53,7 +53,8 @@ head_then n seen head rest l =
     ∙ ap (λ h. chunk (chunks n) seen h (drop 8 (head ++ rest))) (take_at head rest 8 l) ∙ ap (chunk (chunks n) seen head) (drop_at head rest 8 l)
 
 -- why a chunk's content didn't come whole
-pub content_ends : (a b : Option (List ℕ)) (taken count : ℕ) (seen : Option Format) (head : List ℕ) (e : WaveRefusal) → starts_with nat_eq head (codes "data") ≡ false → count ≡ padded (number_at 4 4 head) → Stops a b taken count Chunk e → Ends a b taken (ContentSays seen head) e
+pub content_ends : (a b : Option (List ℕ)) (taken count : ℕ) (seen : Option Format) (head : List ℕ) (e : WaveRefusal) → starts_with nat_eq head (codes "data") ≡ false
+    → count ≡ padded (number_at 4 4 head) → Stops a b taken count Chunk e → Ends a b taken (ContentSays seen head) e
 content_ends a b taken count seen head Read h l (xs, k, small, within) =
     (xs, k, within, Chunk, λ n. chunk_short (chunks n) seen head xs h (omega arith))
 content_ends a b taken count seen head (Header field) h l (f, (xs, k, q, small, within)) =
@@ -62,11 +63,13 @@ content_ends a b taken count seen head TooLong h l (xs, x, k, small, all) =
     (xs, x, k, all, Chunk, λ n. chunk_short (chunks n) seen head xs h (omega arith))
 
 -- a chunk that is passed over
-pub chunk_other : (n : ℕ) (seen : Option Format) (head xs rest : List ℕ) → starts_with nat_eq head (codes "data") ≡ false → length xs ≡ padded (number_at 4 4 head) → (starts_with nat_eq head (codes "fmt ") && is_none seen) ≡ false → chunk (chunks n) seen head (xs ++ rest) ≡ chunks n seen rest
+pub chunk_other : (n : ℕ) (seen : Option Format) (head xs rest : List ℕ) → starts_with nat_eq head (codes "data") ≡ false → length xs ≡ padded (number_at 4 4 head)
+    → (starts_with nat_eq head (codes "fmt ") && is_none seen) ≡ false → chunk (chunks n) seen head (xs ++ rest) ≡ chunks n seen rest
 chunk_other n seen head xs rest h l f = chunk_open (chunks n) seen head xs rest h l ∙ ap (λ t. cond t (after_format (chunks n) (judged (number_at 4 4 head) (take (min (padded (number_at 4 4 head)) 40) (xs ++ rest))) rest) (chunks n seen rest)) f
 
 -- the first fmt chunk
-chunk_fmt : (n : ℕ) (head first xs rest : List ℕ) → starts_with nat_eq head (codes "data") ≡ false → length first ≡ min (padded (number_at 4 4 head)) 40 → length first + length xs ≡ padded (number_at 4 4 head) → starts_with nat_eq head (codes "fmt ") ≡ true
+chunk_fmt : (n : ℕ) (head first xs rest : List ℕ) → starts_with nat_eq head (codes "data") ≡ false → length first ≡ min (padded (number_at 4 4 head)) 40
+    → length first + length xs ≡ padded (number_at 4 4 head) → starts_with nat_eq head (codes "fmt ") ≡ true
     → chunk (chunks n) None head ((first ++ xs) ++ rest) ≡ after_format (chunks n) (judged (number_at 4 4 head) first) rest
 chunk_fmt n head first xs rest h l k f =
     let p : ℕ = padded (number_at 4 4 head) in
@@ -75,12 +78,14 @@ chunk_fmt n head first xs rest h l k f =
     ∙ ap (λ w. after_format (chunks n) (judged (number_at 4 4 head) w) rest)
     (ap (take (min p 40)) (append_assoc first xs rest) ∙ take_at first (xs ++ rest) (min p 40) l)
 
-pub fmt_right : (n : ℕ) (head first xs rest : List ℕ) (format : Format) → starts_with nat_eq head (codes "data") ≡ false → length first ≡ min (padded (number_at 4 4 head)) 40 → length first + length xs ≡ padded (number_at 4 4 head) → starts_with nat_eq head (codes "fmt ") ≡ true
+pub fmt_right : (n : ℕ) (head first xs rest : List ℕ) (format : Format) → starts_with nat_eq head (codes "data") ≡ false → length first ≡ min (padded (number_at 4 4 head)) 40
+    → length first + length xs ≡ padded (number_at 4 4 head) → starts_with nat_eq head (codes "fmt ") ≡ true
     → judged (number_at 4 4 head) first ≡ Ok format → chunk (chunks n) None head ((first ++ xs) ++ rest) ≡ chunks n (Some format) rest
 unfolding after_format
 fmt_right n head first xs rest format h l k f e = chunk_fmt n head first xs rest h l k f ∙ ap (λ r. after_format (chunks n) r rest) e
 
-pub fmt_wrong : (n : ℕ) (head first xs : List ℕ) (field : WaveField) → starts_with nat_eq head (codes "data") ≡ false → length first ≡ min (padded (number_at 4 4 head)) 40 → length first + length xs ≡ padded (number_at 4 4 head) → starts_with nat_eq head (codes "fmt ") ≡ true
+pub fmt_wrong : (n : ℕ) (head first xs : List ℕ) (field : WaveField) → starts_with nat_eq head (codes "data") ≡ false → length first ≡ min (padded (number_at 4 4 head)) 40
+    → length first + length xs ≡ padded (number_at 4 4 head) → starts_with nat_eq head (codes "fmt ") ≡ true
     → judged (number_at 4 4 head) first ≡ Err field → chunk (chunks n) None head (first ++ xs) ≡ refused field
 unfolding after_format
 fmt_wrong n head first xs field h l k f e =

@@ -41,6 +41,10 @@ pub left_true : (a b : Bool) → (a && b) ≡ true → a ≡ true
 left_true true b h = refl
 left_true false b h = cc
 
+pub right_true : (a b : Bool) → (a && b) ≡ true → b ≡ true
+right_true true b h = h
+right_true false b h = cc
+
 pub right_none : (a : Bool) (seen : Option Format) → (a && is_none seen) ≡ true → seen ≡ None
 right_none a None h = refl
 right_none true (Some f) h = cc
@@ -91,7 +95,8 @@ module _ (seen : Option Format) (head xs more : List ℕ) (other : starts_with n
       ∙ ap (λ ys. cond fmt (after_format go (judged (number_at 4 4 head) ys) (drop p (xs ++ more))) (go seen (drop p (xs ++ more)))) (take-append-le (min p 40) xs more (omega arith))
       ∙ ap (λ ys. cond fmt (after_format go (judged (number_at 4 4 head) (take (min p 40) xs)) ys) (go seen ys)) (drop-append-le p xs more long)
 
-  pub wrong_more : (go : Next) (field : WaveField) → (starts_with nat_eq head (codes "fmt ") && is_none seen) ≡ true → judged (number_at 4 4 head) (take (min (padded (number_at 4 4 head)) 40) xs) ≡ Err field → chunk go seen head (xs ++ more) ≡ refused field
+  pub wrong_more : (go : Next) (field : WaveField) → (starts_with nat_eq head (codes "fmt ") && is_none seen) ≡ true
+      → judged (number_at 4 4 head) (take (min (padded (number_at 4 4 head)) 40) xs) ≡ Err field → chunk go seen head (xs ++ more) ≡ refused field
   unfolding after_format
   wrong_more go field fmt e =
       open_more go ∙ at_true _ _ (go seen (drop (padded (number_at 4 4 head)) xs ++ more)) fmt ∙ ap (λ r. after_format go r (drop (padded (number_at 4 4 head)) xs ++ more)) e

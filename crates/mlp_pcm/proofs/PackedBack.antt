@@ -101,7 +101,8 @@ module _ {A : Type 0} where
       ∙ sym (take-add size (n * size) bytes) ∙ ap (λ j. take j bytes) (sym m)
 
   -- what is read of values that were put
-  get_pieces : (put : A → List ℕ) (value : List ℕ → A) (size : ℕ) (xs : List A) (rest : List ℕ) → All (λ x. length (put x) ≡ size) xs → All (λ x. (bs : List ℕ) → value (put x ++ bs) ≡ x) xs → pieces value size (length xs) (flat_map put xs ++ rest) ≡ xs
+  get_pieces : (put : A → List ℕ) (value : List ℕ → A) (size : ℕ) (xs : List A) (rest : List ℕ) → All (λ x. length (put x) ≡ size) xs → All (λ x. (bs : List ℕ) → value (put x ++ bs) ≡ x) xs
+      → pieces value size (length xs) (flat_map put xs ++ rest) ≡ xs
   unfolding pieces
   get_pieces put value size [] rest l same = refl
   get_pieces put value size (x ∷ xs) rest l same =

@@ -61,7 +61,8 @@ module _ {A : Type 0} where
   next_piece : (value : List ℕ → A) (size n i : ℕ) (items : List A) (rest : List ℕ) (all : List A) → i < n → items ++ pieces value size (n - i) rest ≡ all → items ++ value rest ∷ pieces value size (n - i - 1) (drop size rest) ≡ all
   next_piece value size n i items rest all h done = ap (λ xs. items ++ xs) (sym (pieces_more value size (n - i) rest (omega arith))) ∙ done
 
-  pub done_more : (value : List ℕ → A) (size n i : ℕ) (items : List A) (rest after : List ℕ) (all : List A) → i < n → after ≡ drop size rest → items ++ pieces value size (n - i) rest ≡ all → (items ++ value rest ∷ []) ++ pieces value size (n - (i + 1)) after ≡ all
+  pub done_more : (value : List ℕ → A) (size n i : ℕ) (items : List A) (rest after : List ℕ) (all : List A) → i < n → after ≡ drop size rest → items ++ pieces value size (n - i) rest ≡ all
+      → (items ++ value rest ∷ []) ++ pieces value size (n - (i + 1)) after ≡ all
   done_more value size n i items rest after all h e done =
       append_assoc items (value rest ∷ []) (pieces value size (n - (i + 1)) after)
       ∙ ap (λ xs. items ++ value rest ∷ pieces value size (n - (i + 1)) xs) e

@@ -1,18 +1,13 @@
 -- Bytes that were taken, and then more.
-use Rattle.std.proofs.Common.{◌≡◌, ℕ, ◌+◌, ◌<◌, ◌≤◌, List, [], ◌∷◌, ◌++◌, length, take, get_or, Option, Some, None, Ok, Err, IfErr, Result, arith, sym, ◌∙◌, ap, subst}
+use Rattle.std.proofs.Common.{◌≡◌, ℕ, ◌+◌, ◌<◌, ◌≤◌, List, [], ◌∷◌, ◌++◌, length, take, get_or, Option, Ok, Err, IfErr, Result, arith, sym, ◌∙◌, subst}
 use Rattle.std.proofs.lemmas.List.{append_assoc, length-append, take_more, take_all, length-take-le}
 use Rattle.std.specs.Io.KnownBytes.{Consumes}
+use Rattle.mlp_io.proofs.Bytes.{Consumes-append}
 use Rattle.mlp_syntax.specs.declared.refusal.WaveField.{WaveField}
 use Rattle.mlp_pcm.specs.declared.wave_bytes.WaveRefusal.{WaveRefusal}
 use Rattle.mlp_pcm.specs.declared.wave_bytes.WaveRefusal.TheVariants.{Read, Header, TooLong}
 use Rattle.mlp_io.specs.Limit.{limit}
 use Rattle.mlp_pcm.specs.WaveBytes.{Stops}
-
-pub consumes_then : (a b c : Option (List ℕ)) (xs ys : List ℕ) → Consumes a b xs → Consumes b c ys → Consumes a c (xs ++ ys)
-consumes_then None b c xs ys h k = tt
-consumes_then (Some x) None c xs ys h k = absurd h
-consumes_then (Some x) (Some y) None xs ys h k = k
-consumes_then (Some x) (Some y) (Some z) xs ys h k = h ∙ ap (λ w. xs ++ w) k ∙ sym (append_assoc xs ys z)
 
 -- the last of so many bytes
 pub with_last : (ys : List ℕ) (room : ℕ) → length ys ≡ room + 1 → take room ys ++ get_or ys room 0 ∷ [] ≡ ys
@@ -21,11 +16,11 @@ with_last ys room h = sym (take_more ys room 0 (omega arith)) ∙ take_all (room
 pub stops_after : (a b c : Option (List ℕ)) (xs : List ℕ) (taken at count m : ℕ) (short : WaveField) (e : WaveRefusal) → Consumes a b xs → at ≡ taken + length xs → length xs + m ≤ count
     → Stops b c at m short e → Stops a c taken count short e
 stops_after a b c xs taken at count m short Read h n l (ys, k, small, within) =
-    (xs ++ ys, consumes_then a b c xs ys h k, omega (arith, length-append xs ys), omega (arith, length-append xs ys))
+    (xs ++ ys, Consumes-append a b c xs ys h k, omega (arith, length-append xs ys), omega (arith, length-append xs ys))
 stops_after a b c xs taken at count m short (Header field) h n l (f, (ys, k, q, small, within)) =
-    (f, (xs ++ ys, consumes_then a b c xs ys h k, q, omega (arith, length-append xs ys), omega (arith, length-append xs ys)))
+    (f, (xs ++ ys, Consumes-append a b c xs ys h k, q, omega (arith, length-append xs ys), omega (arith, length-append xs ys)))
 stops_after a b c xs taken at count m short TooLong h n l (ys, y, k, small, all) =
-    (xs ++ ys, y, subst (Consumes a c) (sym (append_assoc xs ys (y ∷ []))) (consumes_then a b c xs (ys ++ y ∷ []) h k), omega (arith, length-append xs ys), omega (arith, length-append xs ys))
+    (xs ++ ys, y, subst (Consumes a c) (sym (append_assoc xs ys (y ∷ []))) (Consumes-append a b c xs (ys ++ y ∷ []) h k), omega (arith, length-append xs ys), omega (arith, length-append xs ys))
 
 -- the limit came and one byte more
 pub past : (a b : Option (List ℕ)) (taken room count : ℕ) (short : WaveField) (ys : List ℕ) → Consumes a b ys → length ys ≡ room + 1 → taken + room ≡ limit → room < count → Stops a b taken count short TooLong

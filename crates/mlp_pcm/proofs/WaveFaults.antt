@@ -11,9 +11,9 @@ use Rattle.mlp_pcm.specs.WaveHeader.{padded}
 use Rattle.mlp_pcm.specs.WaveFormat.{number_at, judged}
 use Rattle.mlp_pcm.specs.WaveScan.{refused, begins, chunks, at_data, header, is_riff, Says}
 use Rattle.mlp_pcm.specs.WaveFile.{size_in, bytes_of, IsExtra, LacksFormat, RefusesFormat, IsWrongBehindRiff, IsWrongInside, IsWrongRiff}
-use Rattle.mlp_pcm.proofs.ChunkViews.{is_data, is_short, is_wrong, is_format, is_passed, view, no_head, one_head, view_all, no_riff, wrong_riff, right_riff, view_header, right_none, left_true, wrong_more}
+use Rattle.mlp_pcm.proofs.ChunkViews.{is_data, is_short, is_wrong, is_format, is_passed, view, no_head, one_head, view_all, no_riff, wrong_riff, right_riff, view_header, right_none, left_true, wrong_more, right_true}
 use Rattle.mlp_pcm.proofs.ChunkLemmas.{head_then, data_missing, riff_right, header_then, at_false}
-use Rattle.mlp_pcm.proofs.WaveGrammar.{front_chunk, front_is, in_front, first_of, right_false, right_true, and_true, passed_over}
+use Rattle.mlp_pcm.proofs.WaveGrammar.{front_chunk, front_is, in_front, first_of, right_false, and_true, passed_over}
 
 -- behind a format no field is wrong
 never_refused : (n : ℕ) (seen : Format) (bytes : List ℕ) (field : WaveField) → chunks n (Some seen) bytes ≡ refused field → ⊥

@@ -10,7 +10,7 @@ use Rattle.mlp_pcm.specs.WaveHeader.{padded}
 use Rattle.mlp_pcm.specs.WaveFormat.{number_at, judged}
 use Rattle.mlp_pcm.specs.WaveScan.{begins, chunk, chunks, at_data, header, Says}
 use Rattle.mlp_pcm.specs.WaveFile.{Chunk, is_named, bytes_of, IsChunk, IsExtra, SaysFormat, AreBehindFormat, AreBehindRiff, IsWave}
-use Rattle.mlp_pcm.proofs.ChunkViews.{is_data, is_short, is_wrong, is_format, is_passed, view, no_head, one_head, view_all, no_riff, wrong_riff, right_riff, view_header, right_none, left_true}
+use Rattle.mlp_pcm.proofs.ChunkViews.{is_data, is_short, is_wrong, is_format, is_passed, view, no_head, one_head, view_all, no_riff, wrong_riff, right_riff, view_header, right_none, left_true, right_true}
 use Rattle.mlp_pcm.proofs.ChunkLemmas.{head_then, chunk_other, fmt_right, data_begins, riff_right}
 
 -- the first bytes of a content
@@ -126,10 +126,6 @@ and_false false = refl
 pub and_true : (a : Bool) → a ≡ false → (a && true) ≡ false
 and_true true h = h
 and_true false h = refl
-
-pub right_true : (a b : Bool) → (a && b) ≡ true → b ≡ true
-right_true true b h = h
-right_true false b h = cc
 
 abbrev IsSkipped : Option Format → Chunk → Type 0
 IsSkipped seen c = (is_named (codes "fmt ") c.head && is_none seen) ≡ false

@@ -1,5 +1,6 @@
 -- Raw PCM: frames one after the other, channels in order, samples little-endian and signed.
-use Rattle.std.specs.Prelude.{◌≡◌, ℕ, zero, suc, ◌-◌, ◌*◌, ◌/◌, ◌%◌, ◌^◌, ◌<◌, ◌==◌, ℤ, pos, neg_ℤ, ◌*ℤ◌, ◌≤ℤ◌, ◌<ℤ◌, ◌⊎◌, ◌≤◌, All, Bool, false, List, [], ◌∷◌, ◌++◌, length, take, drop, replicate, slice_index_or, if◌then◌else◌, IsTrue}
+use Rattle.std.specs.Prelude.{◌≡◌, ◌↔◌, ℕ, zero, suc, ◌-◌, ◌*◌, ◌/◌, ◌%◌, ◌^◌, ◌<◌, ◌==◌, ℤ, pos, neg_ℤ, ◌*ℤ◌, ◌≤ℤ◌, ◌<ℤ◌, ◌⊎◌, ◌≤◌, All, Bool, false, List, [], ◌∷◌, ◌++◌, length, take, drop, replicate, slice_index_or, if◌then◌else◌, Option, None, Some, option_map, Ok, Err, IsTrue}
+use Rattle.std.specs.declared.result.Result.{Result}
 use Rattle.std.specs.Int.{w64, cast_unsigned}
 use Rattle.std.specs.List.{list_all, flat_map}
 use Rattle.byteorder.specs.Endian.{little_number, little_bytes, twos_complement, low_bytes}
@@ -34,6 +35,25 @@ pub record IsFirstFailing (test : List ℤ → Bool) (rows : List (List ℤ)) (i
   pub within : i < length rows
   pub before : IsTrue (list_all test (take i rows))
   pub here : test (slice_index_or rows i []) ≡ false
+
+-- the number of the first row at which the test fails
+unfoldable pub first_failing : (List ℤ → Bool) → List (List ℤ) → Option ℕ
+first_failing test [] = None
+first_failing test (row ∷ rows) = if test row then option_map suc (first_failing test rows) else Some 0
+
+-- that is the first
+pub record FirstFailingIsFirst (test : List ℤ → Bool) (rows : List (List ℤ)) : Type 0 where
+  pub none : (first_failing test rows ≡ None) ↔ IsTrue (list_all test rows)
+  pub some : (i : ℕ) → (first_failing test rows ≡ Some i) ↔ IsFirstFailing test rows i
+
+-- the rows of all frames, whose low bits are 0
+abbrev pub AreUnpacked : ℕ → ℕ → ℕ → List ℕ → List (List ℤ) → Type 0
+AreUnpacked width depth channels bytes rows = (rows ≡ rows_in width channels bytes) × IsTrue (list_all (are_clear depth) (rows_in width channels bytes))
+
+-- the rows before row i, the first that has a sample whose low bits aren't 0
+abbrev pub AreUnpackedTo : ℕ → ℕ → ℕ → List ℕ → List (List ℤ) → ℕ → Type 0
+AreUnpackedTo width depth channels bytes rows i =
+    IsFirstFailing (are_clear depth) (rows_in width channels bytes) i × (rows ≡ take i (rows_in width channels bytes))
 
 -- the three bytes of a sample, and of a sample of 16 bits the upper two
 unfoldable pub sample_bytes : ℕ → ℤ → List ℕ
@@ -70,6 +90,15 @@ pub record IsRow (depth channels : ℕ) (row : List ℤ) : Type 0 where
 -- what `pack` asks of a row
 abbrev pub is_packable : ℕ → ℕ → List ℤ → Bool
 is_packable bits channels row = are_clear bits (take channels row)
+
+-- the number of the first frame that has a sample whose low bits aren't 0
+abbrev pub first_low : ℕ → ℕ → List (List ℤ) → Option ℕ
+first_low bits channels rows = first_failing (is_packable bits channels) rows
+
+-- The frames were packed, or have a first one that can't be. Nothing was then put out.
+abbrev pub Packs : ℕ → ℕ → List (List ℤ) → List ℕ → Result Unit ℕ → Type 0
+Packs bits channels rows out (Ok x) = (first_low bits channels rows ≡ None) × (out ≡ packed bits channels rows)
+Packs bits channels rows out (Err i) = (first_low bits channels rows ≡ Some i) × (out ≡ [])
 
 -- packed are the bytes from which rows were unpacked, and `pack` accepts these rows
 abbrev pub PackedIsUnpacked : Type 0

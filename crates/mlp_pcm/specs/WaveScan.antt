@@ -102,6 +102,11 @@ place_of (Passed format at) = at
 abbrev pub HeaderSays : List ℕ → Answer → Type 0
 HeaderSays xs answer = (n : ℕ) → header n xs ≡ answer
 
+-- the first 12 bytes were taken, and are those of a WAVE file
+abbrev pub TakesRiff : Option (List ℕ) → Option (List ℕ) → Type 0
+TakesRiff before after =
+    (xs : List ℕ) × Consumes before after xs × (length xs ≡ 12) × ((n : ℕ) (rest : List ℕ) → header n (xs ++ rest) ≡ chunks n None rest)
+
 -- what the chunks behind them say
 abbrev pub AllChunksSay : List ℕ → Answer → Type 0
 AllChunksSay xs answer = (k : ℕ) × (chunks k None xs ≡ answer)

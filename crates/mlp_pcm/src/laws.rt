@@ -1,8 +1,8 @@
 //! What holds of PCM as bytes, and of the headers of WAVE files.
-ghost use Rattle.std.specs.Prelude.{ℕ, List};
+ghost use Rattle.std.specs.Prelude.{ℕ, ℤ, Bool, List};
 ghost use Rattle.mlp_pcm.specs.WaveScan.{UnfinishedWhereCut};
 ghost use Rattle.mlp_pcm.specs.WaveFile.{BeginsWhereWave, RefusedWhereWrong, HasOneAnswer, StaysSo, WrittenIsRead};
-ghost use Rattle.mlp_pcm.specs.Samples.{PackedIsUnpacked, UnpackedAreRows, UnpackedIsPacked};
+ghost use Rattle.mlp_pcm.specs.Samples.{FirstFailingIsFirst, PackedIsUnpacked, UnpackedAreRows, UnpackedIsPacked};
 
 /// At each width `unpack` and `pack` are inverse: bytes of whole frames are those of the rows that they were unpacked to, and
 /// rows whose samples have 24 signed bits, of which those that their depth doesn't have are 0, are those that their bytes
@@ -11,6 +11,11 @@ pub fn law_samples()
     ensures packed { PackedIsUnpacked }
     ensures rows { UnpackedAreRows }
     ensures unpacked { UnpackedIsPacked }
+{}
+
+/// The first row at which a test fails has this number exactly where it fails there and at none before.
+pub fn law_first_failing()
+    ensures { (test : List ℤ → Bool) (rows : List (List ℤ)) → FirstFailingIsFirst test rows }
 {}
 
 /// Bytes say that a header begins exactly where they are RIFF, a size, WAVE, chunks of which the first that is named `fmt `

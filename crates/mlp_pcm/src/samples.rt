@@ -2,11 +2,11 @@
 ghost use Rattle.std.specs.Prelude.{◌≡◌, ◌⊎◌, ◌++◌, ◌+◌, ◌*◌, ◌%◌, ◌/◌, ◌^◌, ◌≤◌, ◌<◌, ◌&&◌, ◌==◌, not, take, drop, length, IfErr, OnOk, OnErr, IsTrue, []};
 ghost use Rattle.std.specs.List.{list_all, flat_map};
 ghost use Rattle.arrayvec.specs.ArrayVec.{array_vec_len};
-ghost use Rattle.mlp_pcm.specs.Samples.{sample_in, row_in, rows_in, is_clear, are_clear, IsFirstFailing, sample_bytes, row_bytes, packed};
+ghost use Rattle.mlp_pcm.specs.Samples.{sample_in, row_in, is_clear, are_clear, IsFirstFailing, AreUnpacked, AreUnpackedTo, IsForm, sample_bytes, packed, is_packable, Packs};
 
 use arrayvec::ArrayVec;
 use byteorder::{ByteOrder, LittleEndian};
-use mlp_syntax::Frames;
+use mlp_syntax::{Frames, UnitBytes};
 
 /// The sample in the first bytes, as one of 24 bits.
 #[tactic(auto, unfolding(crate::specs::Samples::sample_in))]
@@ -73,13 +73,13 @@ fn unpack_frames(
     channels: u8,
     out: &mut Frames,
 ) -> Result<(), u32>
-    requires form { ((width ≡ 2) × (depth ≡ 16)) ⊎ ((width ≡ 3) × ((depth ≡ 20) ⊎ (depth ≡ 24))) }
+    requires form { IsForm width depth }
     requires channels { (1 ≤ channels) × (channels ≤ 8) }
     requires few { length bytes.now / (channels * width) ≤ 160 }
     requires empty { out.old.rows.items ≡ [] }
     ensures channels { out.new.channels ≡ out.old.channels }
-    ensures ok { OnOk result ((out.new.rows.items ≡ rows_in width channels bytes.now) × IsTrue (list_all (are_clear depth) (rows_in width channels bytes.now))) }
-    ensures err { IfErr result (λ i. IsFirstFailing (are_clear depth) (rows_in width channels bytes.now) i × (out.new.rows.items ≡ take i (rows_in width channels bytes.now))) }
+    ensures ok { OnOk result (AreUnpacked width depth channels bytes.now out.new.rows.items) }
+    ensures err { IfErr result (AreUnpackedTo width depth channels bytes.now out.new.rows.items) }
 {
     let size = channels as usize * width as usize;
     let count = bytes.len() / size;
@@ -104,13 +104,13 @@ fn unpack_channels(
     channels: u8,
     out: &mut Frames,
 ) -> Result<(), u32>
-    requires form { ((width ≡ 2) × (depth ≡ 16)) ⊎ ((width ≡ 3) × ((depth ≡ 20) ⊎ (depth ≡ 24))) }
+    requires form { IsForm width depth }
     requires channels { (1 ≤ channels) × (channels ≤ 8) }
     requires few { length bytes.now / (channels * width) ≤ 160 }
     requires empty { out.old.rows.items ≡ [] }
     ensures channels { out.new.channels ≡ out.old.channels }
-    ensures ok { OnOk result ((out.new.rows.items ≡ rows_in width channels bytes.now) × IsTrue (list_all (are_clear depth) (rows_in width channels bytes.now))) }
-    ensures err { IfErr result (λ i. IsFirstFailing (are_clear depth) (rows_in width channels bytes.now) i × (out.new.rows.items ≡ take i (rows_in width channels bytes.now))) }
+    ensures ok { OnOk result (AreUnpacked width depth channels bytes.now out.new.rows.items) }
+    ensures err { IfErr result (AreUnpackedTo width depth channels bytes.now out.new.rows.items) }
 {
     if channels == 2 {
         return unpack_frames(bytes, width, depth, 2, out);
@@ -126,13 +126,13 @@ fn unpack_channels(
 /// The number of the first frame that has a sample whose low bits, which its depth doesn't have, are not 0. `out` then has
 /// the frames before it.
 pub fn unpack(bytes: &[u8], width: u8, depth: u8, channels: u8, out: &mut Frames) -> Result<(), u32>
-    requires form { ((width ≡ 2) × (depth ≡ 16)) ⊎ ((width ≡ 3) × ((depth ≡ 20) ⊎ (depth ≡ 24))) }
+    requires form { IsForm width depth }
     requires channels { (1 ≤ channels) × (channels ≤ 8) }
     requires whole { length bytes.now % (channels * width) ≡ 0 }
     requires few { length bytes.now / (channels * width) ≤ 160 }
     ensures channels { out.new.channels ≡ channels }
-    ensures ok { OnOk result ((out.new.rows.items ≡ rows_in width channels bytes.now) × IsTrue (list_all (are_clear depth) (rows_in width channels bytes.now))) }
-    ensures err { IfErr result (λ i. IsFirstFailing (are_clear depth) (rows_in width channels bytes.now) i × (out.new.rows.items ≡ take i (rows_in width channels bytes.now))) }
+    ensures ok { OnOk result (AreUnpacked width depth channels bytes.now out.new.rows.items) }
+    ensures err { IfErr result (AreUnpackedTo width depth channels bytes.now out.new.rows.items) }
 {
     out.channels = channels;
     out.rows.clear();
@@ -186,24 +186,27 @@ fn put_samples(samples: &[i32], bits: u8, place: usize, out: &mut [u8]) -> (usiz
 /// They are gathered in `bytes`.
 #[inline]
 #[tactic(auto, using(crate::proofs::Pieces::one_more_fits))]
-fn pack_frames(
-    rows: &[[i32; 8]],
+fn pack_frames<const N: usize>(
+    frames: &[[i32; 8]],
     channels: u8,
     bits: u8,
     bytes: &mut [u8],
-    out: &mut ArrayVec<u8, 3840>,
+    out: &mut ArrayVec<u8, N>,
 ) -> Result<(), u32>
     requires bits { (bits ≡ 16) ⊎ (bits ≡ 24) }
     requires channels { channels ≤ 8 }
-    requires room { length rows.now * (3 * channels) ≤ length bytes.old }
-    requires most { length bytes.old ≤ 3840 }
+    requires few { length frames.now ≤ 160 }
+    requires room { length frames.now * (3 * channels) ≤ length bytes.old }
+    requires most { length bytes.old ≤ N }
     requires empty { out.old.items ≡ [] }
-    ensures ok { OnOk result ((out.new.items ≡ packed bits channels rows.now) × IsTrue (list_all (λ row. are_clear bits (take channels row)) rows.now)) }
-    ensures err { IfErr result (λ i. IsFirstFailing (λ row. are_clear bits (take channels row)) rows.now i × (out.new.items ≡ [])) }
+    ensures ok { OnOk result (out.new.items ≡ packed bits channels frames.now) }
+    ensures clear { OnOk result (IsTrue (list_all (is_packable bits channels) frames.now)) }
+    ensures first { IfErr result (IsFirstFailing (is_packable bits channels) frames.now) }
+    ensures none { OnErr result (out.new.items ≡ []) }
 {
     let mut end = 0;
-    for index in 0..rows.len() {
-        let samples = &rows[index][..channels as usize];
+    for index in 0..frames.len() {
+        let samples = &frames[index][..channels as usize];
         let (next, all_clear) = put_samples(samples, bits, end, bytes);
         if !all_clear {
             return Err(index as u32);
@@ -218,23 +221,44 @@ fn pack_frames(
 /// The same, with a loop of its own for two channels.
 #[inline]
 #[tactic(auto, using(crate::proofs::Pieces::all_fit))]
-fn pack_channels(
-    rows: &[[i32; 8]],
+fn pack_channels<const N: usize>(
+    frames: &[[i32; 8]],
     channels: u8,
     bits: u8,
-    out: &mut ArrayVec<u8, 3840>,
+    out: &mut ArrayVec<u8, N>,
 ) -> Result<(), u32>
     requires bits { (bits ≡ 16) ⊎ (bits ≡ 24) }
     requires channels { channels ≤ 8 }
-    requires rows { length rows.now ≤ 160 }
+    requires few { length frames.now ≤ 160 }
+    requires room { 3840 ≤ N }
     requires empty { out.old.items ≡ [] }
-    ensures ok { OnOk result ((out.new.items ≡ packed bits channels rows.now) × IsTrue (list_all (λ row. are_clear bits (take channels row)) rows.now)) }
-    ensures err { IfErr result (λ i. IsFirstFailing (λ row. are_clear bits (take channels row)) rows.now i × (out.new.items ≡ [])) }
+    ensures { Packs bits channels frames.now out.new.items result }
 {
     if channels == 2 {
-        return pack_frames(rows, 2, bits, &mut [0; 960], out);
+        return pack_frames(frames, 2, bits, &mut [0; 960], out);
     }
-    pack_frames(rows, channels, bits, &mut [0; 3840], out)
+    pack_frames(frames, channels, bits, &mut [0; 3840], out)
+}
+
+/// The same, with loops of their own for both numbers of bits.
+#[inline]
+fn pack_bits<const N: usize>(
+    frames: &[[i32; 8]],
+    channels: u8,
+    bits: u8,
+    out: &mut ArrayVec<u8, N>,
+) -> Result<(), u32>
+    requires bits { (bits ≡ 16) ⊎ (bits ≡ 24) }
+    requires channels { channels ≤ 8 }
+    requires few { length frames.now ≤ 160 }
+    requires room { 3840 ≤ N }
+    ensures { Packs bits channels frames.now out.new.items result }
+{
+    out.clear();
+    if bits == 16 {
+        return pack_channels(frames, channels, 16, out);
+    }
+    pack_channels(frames, channels, 24, out)
 }
 
 /// Replaces `out` by the bytes of these frames: 3 bytes a sample, or the upper 2 where `bits` is 16.
@@ -245,13 +269,27 @@ fn pack_channels(
 pub fn pack(frames: &Frames, bits: u8, out: &mut ArrayVec<u8, 3840>) -> Result<(), u32>
     requires bits { (bits ≡ 16) ⊎ (bits ≡ 24) }
     requires channels { frames.now.channels ≤ 8 }
-    ensures ok { OnOk result ((out.new.items ≡ packed bits frames.now.channels frames.now.rows.items) × IsTrue (list_all (λ row. are_clear bits (take frames.now.channels row)) frames.now.rows.items)) }
-    ensures err { IfErr result (λ i. IsFirstFailing (λ row. are_clear bits (take frames.now.channels row)) frames.now.rows.items i × (out.new.items ≡ [])) }
+    ensures { Packs bits frames.now.channels frames.now.rows.items out.new.items result }
 {
-    out.clear();
-    let rows = frames.rows.as_slice();
-    if bits == 16 {
-        return pack_channels(rows, frames.channels, 16, out);
-    }
-    pack_channels(rows, frames.channels, 24, out)
+    pack_bits(frames.rows.as_slice(), frames.channels, bits, out)
+}
+
+/// The same of the first `channels` samples of each frame of a unit, into the bytes of a unit: 160 frames of 8 channels are at most
+/// 3840 bytes.
+///
+/// # Errors
+///
+/// The number of the first frame that has a sample whose low byte isn't 0, where `bits` is 16. `out` is then empty.
+pub fn pack_unit(
+    frames: &[[i32; 8]],
+    channels: u8,
+    bits: u8,
+    out: &mut UnitBytes,
+) -> Result<(), u32>
+    requires bits { (bits ≡ 16) ⊎ (bits ≡ 24) }
+    requires channels { channels ≤ 8 }
+    requires few { length frames.now ≤ 160 }
+    ensures { Packs bits channels frames.now out.new.items result }
+{
+    pack_bits(frames, channels, bits, out)
 }

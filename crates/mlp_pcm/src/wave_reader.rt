@@ -1,9 +1,8 @@
 //! The header of a WAVE file, read from any source.
-ghost use Rattle.std.specs.Prelude.{◌≡◌, ◌+◌, ◌++◌, List, ℕ, None, length, IfOk, IfErr, OnOk};
-ghost use Rattle.std.specs.Io.KnownBytes.{Consumes};
+ghost use Rattle.std.specs.Prelude.{IfOk, IfErr, OnOk};
 ghost use Rattle.mlp_io.specs.Causes.{IsCause};
 ghost use Rattle.mlp_pcm.specs.WaveBytes.{is_read_fault};
-ghost use Rattle.mlp_pcm.specs.WaveScan.{header, chunks, Ends, HeaderSays, AllChunksSay, Says, Chunked, Began};
+ghost use Rattle.mlp_pcm.specs.WaveScan.{TakesRiff, Ends, HeaderSays, AllChunksSay, Says, Chunked, Began};
 
 use crate::samples::behind;
 use crate::wave_bytes::{WaveRefusal, take};
@@ -29,7 +28,7 @@ pub struct WaveInfo {
 
 /// Takes the first 12 bytes.
 fn take_riff<S: Source>(source: &mut S) -> Result<(), WaveRefusal>
-    ensures ok { OnOk result ((xs : List ℕ) × Consumes (S.left source.old) (S.left source.new) xs × (length xs ≡ 12) × ((n : ℕ) (rest : List ℕ) → header n (xs ++ rest) ≡ chunks n None rest)) }
+    ensures ok { OnOk result (TakesRiff (S.left source.old) (S.left source.new)) }
     ensures err { IfErr result (Ends (S.left source.old) (S.left source.new) 0 HeaderSays) }
     ensures cause { IsCause (is_read_fault result) (S.faults source.old) (S.faults source.new) }
 {

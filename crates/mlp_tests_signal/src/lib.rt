@@ -9,3 +9,5 @@ mod fifo;
 mod io;
 #[cfg(test)]
 mod matrix;
+#[cfg(test)]
+mod pcm;

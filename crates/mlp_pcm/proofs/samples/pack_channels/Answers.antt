@@ -1,7 +1,12 @@
+use Rattle.mlp_pcm.proofs.FirstFailing.{packs}
 use Rattle.mlp_pcm.proofs.samples.pack_channels.Goals as goal
 
-pub returns-then-channels-eq2-clause-ok : goal.returns-then-channels-eq2-clause-ok
-returns-then-channels-eq2-clause-ok c = rw c.if-channels-eq2.true c.pack_frames.ensures.ok
+pub returns-then-channels-eq2 : goal.returns-then-channels-eq2
+returns-then-channels-eq2 g c =
+    let e = c.pack_frames.ensures in
+    rw c.if-channels-eq2.true (packs c.args.bits 2 c.args.frames.now c.pack_frames.new.out.items c.pack_frames.result e.ok e.clear e.first e.none)
 
-pub returns-then-channels-eq2-clause-err : goal.returns-then-channels-eq2-clause-err
-returns-then-channels-eq2-clause-err c = rw c.if-channels-eq2.true c.pack_frames.ensures.err
+pub returns : goal.returns
+returns g c =
+    let e = c.pack_frames-2.ensures in
+    packs c.args.bits c.args.channels c.args.frames.now c.pack_frames-2.new.out.items c.pack_frames-2.result e.ok e.clear e.first e.none

@@ -1,7 +1,8 @@
 use Rattle.std.proofs.Common.{◌++◌, arith, refl, ◌∙◌}
 use Rattle.std.proofs.lemmas.List.{length-append}
+use Rattle.mlp_io.proofs.Bytes.{Consumes-append}
 use Rattle.mlp_syntax.specs.declared.refusal.WaveField.TheVariants.{Chunk}
-use Rattle.mlp_pcm.proofs.Stopping.{consumes_then, stops_after}
+use Rattle.mlp_pcm.proofs.Stopping.{stops_after}
 use Rattle.mlp_pcm.proofs.wave_bytes.skip.Goals as goal
 
 pub returns-in-Err-clause-err : goal.returns-in-Err-clause-err
@@ -18,6 +19,6 @@ loop-left-preserved g c =
       counted = omega (arith, v.counted, e.0, c.min-piece.ensures);
       within = e.1;
       most = omega (arith, v.most);
-      bytes = (v.bytes.0 ++ e.2, consumes_then _ _ _ v.bytes.0 e.2 v.bytes.1 e.3, omega (arith, length-append v.bytes.0 e.2, v.bytes.2, e.4, c.min-piece.ensures));
+      bytes = (v.bytes.0 ++ e.2, Consumes-append _ _ _ v.bytes.0 e.2 v.bytes.1 e.3, omega (arith, length-append v.bytes.0 e.2, v.bytes.2, e.4, c.min-piece.ensures));
       faults = c.in-Ok.ensures.cause.kept refl ∙ v.faults;
     }
