@@ -26,7 +26,8 @@ pub trait Codebook {
         requires { symbol < SYMBOLS }
         ensures { result ≡ length (code_of codes symbol) };
 
-    /// 256 times the symbol whose code nine bits begin with, plus the code's width; `NO_CODE` where they begin with none.
+    /// 256 times the symbol whose code nine bits begin with, plus the code's width; `NO_CODE` where they begin with
+    /// none.
     fn meaning(nine: u32) -> u16
         requires { nine < 2 ^ 9 }
         ensures { result ≡ meaning_of codes (bits 9 nine) };

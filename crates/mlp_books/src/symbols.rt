@@ -16,8 +16,8 @@ use mlp_syntax::{Broken, Field};
 ///
 /// # Errors
 ///
-/// `Code` where the next nine bits are no code, `SegmentShort` where the bits end before a code does and fewer than nine
-/// are left. Nothing is then taken.
+/// `Code` where the next nine bits are no code, `SegmentShort` where the bits end before a code does and fewer than
+/// nine are left. Nothing is then taken.
 #[inline]
 pub fn read_symbol<B: Codebook>(r: &mut BitReader) -> Result<u32, Field>
     ensures read { GivesSymbol r.old r.new result ((symbol_of B.codes).read r.old.all r.old.place) }

@@ -14,7 +14,8 @@ applied_count [] given = refl
 applied_count (s ∷ ss) [] = refl
 applied_count (s ∷ ss) (c ∷ given) = ap suc (applied_count ss given)
 
-applied_next : (ss : List ChannelState) (given : List (Option ChannelParams)) (i : ℕ) (x : ChannelState) (c : Option ChannelParams) → i < length given → i < length ss → x ≡ get_or (channels_applied ss (take i given)) i x → c ≡ get_or given i c
+applied_next : (ss : List ChannelState) (given : List (Option ChannelParams)) (i : ℕ) (x : ChannelState) (c : Option ChannelParams) → i < length given → i < length ss → x ≡ get_or (channels_applied ss (take i given)) i x
+    → c ≡ get_or given i c
     → set (channels_applied ss (take i given)) i (channel_applied x c) ≡ channels_applied ss (take (suc i) given)
 applied_next [] given i x c lt room at is = absurd (omega arith)
 applied_next (s ∷ ss) [] i x c lt room at is = absurd (omega arith)
@@ -29,7 +30,8 @@ module _ (first : ℕ) (old : List ChannelState) (given : List (Option ChannelPa
   pub apply_begins : old ≡ so_far first old given 0
   apply_begins = sym (ap (λ (later : List ChannelState). take first old ++ later) (nothing_applied (drop first old)) ∙ take-append-drop first old)
 
-  pub apply_goes_on : (now : List ChannelState) (i : ℕ) (x : ChannelState) (c : Option ChannelParams) → first + length given ≤ length old → i < length given → now ≡ so_far first old given i → x ≡ get_or now (first + i) x → c ≡ get_or given i c
+  pub apply_goes_on : (now : List ChannelState) (i : ℕ) (x : ChannelState) (c : Option ChannelParams) → first + length given ≤ length old → i < length given → now ≡ so_far first old given i → x ≡ get_or now (first + i) x
+      → c ≡ get_or given i c
       → set now (first + i) (channel_applied x c) ≡ so_far first old given (i + 1)
   apply_goes_on now i x c room lt is at from =
       let front : length (take first old) ≡ first = omega (arith, length-take first old) in

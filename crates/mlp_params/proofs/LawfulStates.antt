@@ -83,7 +83,8 @@ pub restart_is_state : (format : Kind) (unit_frames : ℕ) (r : Restart) → All
 restart_is_state format unit_frames r a least most =
     let order = (ranges format r a).order in
     let same = all_restarted r.min (r.max + 1) (omega arith) in
-    let count : length (replicate r.min restarted_channel ++ map (channel_in_force []) (range_with_len 0 (r.max + 1 - r.min))) ≡ r.max + 1 = ap (λ (cs : List ChannelState). length cs) (sym same) ∙ length-replicate (r.max + 1) restarted_channel in
+    let count : length (replicate r.min restarted_channel ++ map (channel_in_force []) (range_with_len 0 (r.max + 1 - r.min))) ≡ r.max + 1 = ap (λ (cs : List ChannelState). length cs) (sym same)
+    ∙ length-replicate (r.max + 1) restarted_channel in
     record {
       restart = a;
       unit_frames = most;

@@ -17,7 +17,7 @@ use Rattle.mlp_bits.specs.Bits.{bit}
 use Rattle.mlp_layout.specs.Layout.{Layout, number_of, seen, ruled, tested, made, part, item}
 use Rattle.mlp_layout.specs.Combined.{must, flag, signed_of, chosen, present, group, times, listed, each}
 use Rattle.mlp_layout.specs.Allowed.{Allowed}
-use Rattle.mlp_params.specs.Filters.{order_of, absent, widths, filter_state, filter}
+use Rattle.mlp_params.specs.Filters.{order_of, absent, widths, filter_state, filter, behind_order}
 use Rattle.mlp_params.specs.Matrices.{rows}
 use Rattle.mlp_params.specs.Parameters.{block_size_of, output_shift, one_precision, filters_tested, channel, groups, params}
 use Rattle.mlp_params.specs.InForce.{stateless}
@@ -50,16 +50,6 @@ no_state : (n : ℕ) (has_state : Bool) (shift coeff_bits coeff_shift : ℕ) (st
     → Allowed (filter n false) (record { shift = shift; coeff_bits = coeff_bits; coeff_shift = coeff_shift; coeffs = record { items = [] }; state = None })
 unfolding filter part ruled chosen made
 no_state n has_state shift coeff_bits coeff_shift state a = record { fits = (a.fits.0, ap stateless a.fits.1); meets = (a.meets.0, tt) }
-
--- what follows the order, where it is positive
-abbrev behind_order : (n : ℕ) → Bool → ℕ → Layout (Filter n)
-behind_order n has_state order =
-    part (number_of 4) (λ f. f.shift) (λ shift.
-    part widths (λ f. (f.coeff_bits, f.coeff_shift)) (λ w.
-    part (times order (signed_of w.0)) (λ f. f.coeffs.items) (λ coeffs.
-    part (ruled (must rule.FirState (λ there. has_state || not there)) flag) (λ f. is_some f.state) (λ there.
-    part (present there (filter_state order)) (λ f. f.state) (λ state.
-    made (record { shift = shift; coeff_bits = w.0; coeff_shift = w.1; coeffs = record { items = coeffs }; state = state }))))))
 
 without_state : (n : ℕ) (has_state : Bool) (items : List ℤ) (shift coeff_bits coeff_shift : ℕ) (state : Option FilterState)
     → Allowed (behind_order n has_state (length items)) (record { shift = shift; coeff_bits = coeff_bits; coeff_shift = coeff_shift; coeffs = record { items = items }; state = state })
@@ -207,7 +197,16 @@ applied_is s p h a =
       rows = allowed_now _ _ p.matrices s.rows g.matrices h.rows;
       shifts = allowed_now _ _ p.shifts s.shifts g.shifts h.shifts;
       steps = allowed_now _ _ p.steps s.steps g.steps h.steps;
-      channel_count = omega (arith, order, h.channel_count, length-append low (channels_applied high p.channels.items), applied_count high p.channels.items, length-take s.restart.min s.channels.items, length-drop s.restart.min s.channels.items);
+      channel_count = omega (
+        arith,
+        order,
+        h.channel_count,
+        length-append low (channels_applied high p.channels.items),
+        applied_count high p.channels.items,
+        length-take s.restart.min s.channels.items,
+        length-drop
+            s.restart.min s.channels.items,
+      );
       channels = All-append IsChannelState low (channels_applied high p.channels.items) (All-take IsChannelState s.restart.min s.channels.items h.channels)
           (channels_lawful _ high p.channels.items (All-drop IsChannelState s.restart.min s.channels.items h.channels) g.channels);
     }

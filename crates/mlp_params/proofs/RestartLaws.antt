@@ -22,11 +22,8 @@ restart_is format = checked_is _ _ _ (restart_fields_is format)
 pub allowed : {A : Type 0} {l : Layout A} → IsLayout l → (all : List Bool) (p : ℕ) → p ≤ length all → (x : A) (q : ℕ) → l.read all p ≡ Ok (x, q) → Allowed l x
 allowed is all p le x q h = let f = is_found is all p le (x, q) h in record { fits = f.0.fits; meets = f.0.meets }
 
-pub allowed_of : {A : Type 0} {l : Layout A} → IsLayout l → (old new : Cursor) → (result : Result A Broken) → old.place ≤ length old.all → Gives (λ x. x) old new result (l.read old.all old.place) → IfOk result (λ x. Allowed l x)
-allowed_of is old new (Ok x) le g = allowed is old.all old.place le x new.place g.0
-allowed_of is old new (Err e) le g = tt
-
--- .. what was read in place
-pub allowed_in_place : {A : Type 0} {l : Layout A} → IsLayout l → (old new : Cursor) (value : A) → (result : Result (Unit {0}) Broken) → old.place ≤ length old.all → Gives (λ _. value) old new result (l.read old.all old.place) → OnOk result (Allowed l value)
+-- .. in place of what was there
+pub allowed_in_place : {A : Type 0} {l : Layout A} → IsLayout l → (old new : Cursor) (value : A) → (result : Result (Unit {0}) Broken) → old.place ≤ length old.all
+    → Gives (λ _. value) old new result (l.read old.all old.place) → OnOk result (Allowed l value)
 allowed_in_place is old new value (Ok done) le g = allowed is old.all old.place le value new.place g.0
 allowed_in_place is old new value (Err e) le g = tt

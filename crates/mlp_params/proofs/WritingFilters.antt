@@ -8,19 +8,10 @@ use Rattle.mlp_syntax.specs.declared.params.Filter.{Filter}
 use Rattle.mlp_bits.specs.Bits.{bits}
 use Rattle.mlp_layout.specs.Layout.{Layout, number_of, ruled, part, made}
 use Rattle.mlp_layout.specs.Combined.{must, flag, signed_of, chosen, present, group, times}
-use Rattle.mlp_params.specs.Filters.{order_of, absent, widths, filter_state, filter}
+use Rattle.mlp_params.specs.Filters.{order_of, absent, widths, filter_state, filter, behind_order}
 use Rattle.mlp_layout.specs.Allowed.{Allowed}
 use Rattle.mlp_layout.proofs.RuleReading.{rule_holds}
 use Rattle.mlp_layout.proofs.WritingGroups.{fields}
-
-abbrev behind_order : (n : ℕ) → Bool → ℕ → Layout (Filter n)
-behind_order n has_state order =
-    part (number_of 4) (λ f. f.shift) (λ shift.
-    part widths (λ f. (f.coeff_bits, f.coeff_shift)) (λ w.
-    part (times order (signed_of w.0)) (λ f. f.coeffs.items) (λ coeffs.
-    part (ruled (must rule.FirState (λ there. has_state || not there)) flag) (λ f. is_some f.state) (λ there.
-    part (present there (filter_state order)) (λ f. f.state) (λ state.
-    made (record { shift = shift; coeff_bits = w.0; coeff_shift = w.1; coeffs = record { items = coeffs }; state = state }))))))
 
 module _ {A : Type 0} (l m : Layout A) (x : A) where
   pub first_spelling : (b : Bool) → b ≡ true → l.spelling x ≡ (chosen b l m).spelling x
@@ -59,7 +50,8 @@ module _ (n : ℕ) (has_state : Bool) (f : Filter n) where
       let one : bits 5 f.coeff_bits ++ (bits 3 f.coeff_shift ++ rest) ≡ (bits 5 f.coeff_bits ++ (bits 3 f.coeff_shift ++ [])) ++ rest = simp (append_assoc, append-nil) in
       ap (λ (t : List Bool). bits 4 f.shift ++ (bits 5 f.coeff_bits ++ (bits 3 f.coeff_shift ++ t))) inner ∙ ap (λ (t : List Bool). bits 4 f.shift ++ t) one
 
-  pub filter_text : order_of f ≢ 0 → fields ((order_of f, 4) ∷ (f.shift, 4) ∷ (f.coeff_bits, 5) ∷ (f.coeff_shift, 3) ∷ []) ((times (order_of f) (signed_of f.coeff_bits)).spelling f.coeffs.items ++ (group true (filter_state (order_of f))).spelling f.state) ≡ (filter n has_state).spelling f
+  pub filter_text : order_of f ≢ 0 → fields ((order_of f, 4) ∷ (f.shift, 4) ∷ (f.coeff_bits, 5) ∷ (f.coeff_shift, 3) ∷ [])
+      ((times (order_of f) (signed_of f.coeff_bits)).spelling f.coeffs.items ++ (group true (filter_state (order_of f))).spelling f.state) ≡ (filter n has_state).spelling f
   unfolding filter part ruled number_of body
   filter_text some =
       ap (λ (t : List Bool). bits 4 (order_of f) ++ t) (behind_is ∙ second_spelling (made absent) (behind_order n has_state (order_of f)) f (eqb (order_of f) 0) (ne_eqb (order_of f) 0 some))

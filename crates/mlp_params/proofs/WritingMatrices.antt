@@ -37,7 +37,8 @@ row_fits r m a =
     let h = a.fits in
     record { dest = h.0; frac = h.1.0; width = leb-true _ 14 (rule_holds _ 0 a.meets.1.0.1); coeffs = h.1.1.1.0; noise_shift = h.1.1.1.1.0 }
 
-pub row_text : (r : Restart) (m : MatrixRow) → fields ((m.dest, 4) ∷ (m.frac, 4) ∷ (digit m.bypass, 1) ∷ []) ((times (sources r) (group true (signed_of (m.frac + 2)))).spelling m.coeffs.items ++ ((noise_shift_of r.kind).spelling m.noise_shift ++ [])) ≡ (row r).spelling m
+pub row_text : (r : Restart) (m : MatrixRow) → fields ((m.dest, 4) ∷ (m.frac, 4) ∷ (digit m.bypass, 1) ∷ [])
+    ((times (sources r) (group true (signed_of (m.frac + 2)))).spelling m.coeffs.items ++ ((noise_shift_of r.kind).spelling m.noise_shift ++ [])) ≡ (row r).spelling m
 unfolding row part ruled number_of flag seen made
 row_text r m = refl
 

@@ -36,9 +36,6 @@ listed_text n l v = refl
 
 -- the texts of the groups, under these presence flags
 module _ (s : State) (p : Params) (flags : ℕ) where
-  abbrev pub size_text : List Bool
-  size_text = (group (bit flags 7) (block_size_of s.unit_frames)).spelling p.block_size
-
   abbrev pub matrices_text : List Bool
   matrices_text = (group (bit flags 6) (rows s.format s.restart)).spelling p.matrices
 

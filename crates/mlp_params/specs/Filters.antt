@@ -31,15 +31,18 @@ filter_state order =
     part (times order (signed_of bits)) (λ s. s.values.items) (λ values.
     made (record { bits = bits; shift = shift; values = record { items = values } }))))
 
--- a filter of at most so many coefficients, which may have a state or not
-unfoldable pub filter : (n : ℕ) → Bool → Layout (Filter n)
-filter n has_state =
-    part (ruled (must rule.FilterOrder (λ order. nat_le order n)) (number_of 4)) order_of (λ order.
-    chosen (order == 0)
-    (made absent)
-    (part (number_of 4) (λ f. f.shift) (λ shift.
+-- what follows a positive order in a filter, which may have a state or not
+abbrev pub behind_order : (n : ℕ) → Bool → ℕ → Layout (Filter n)
+behind_order n has_state order =
+    part (number_of 4) (λ f. f.shift) (λ shift.
     part widths (λ f. (f.coeff_bits, f.coeff_shift)) (λ w.
     part (times order (signed_of w.0)) (λ f. f.coeffs.items) (λ coeffs.
     part (ruled (must rule.FirState (λ there. has_state || not there)) flag) (λ f. is_some f.state) (λ there.
     part (present there (filter_state order)) (λ f. f.state) (λ state.
-    made (record { shift = shift; coeff_bits = w.0; coeff_shift = w.1; coeffs = record { items = coeffs }; state = state }))))))))
+    made (record { shift = shift; coeff_bits = w.0; coeff_shift = w.1; coeffs = record { items = coeffs }; state = state }))))))
+
+-- a filter of at most so many coefficients
+unfoldable pub filter : (n : ℕ) → Bool → Layout (Filter n)
+filter n has_state =
+    part (ruled (must rule.FilterOrder (λ order. nat_le order n)) (number_of 4)) order_of (λ order.
+    chosen (order == 0) (made absent) (behind_order n has_state order))

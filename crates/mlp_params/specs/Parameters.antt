@@ -1,5 +1,5 @@
 -- The decoding parameters of a block, against what is in force before it.
-use Rattle.std.specs.Prelude.{ℕ, ◌+◌, ◌==◌, nat_le, nat_lt, ◌&&◌, ◌||◌, Bool, true, false, drop, Option, unwrap_or}
+use Rattle.std.specs.Prelude.{ℕ, ◌+◌, ◌==◌, nat_le, nat_lt, ◌&&◌, ◌||◌, Bool, true, false, List, drop, Option, unwrap_or}
 use Rattle.mlp_syntax.specs.declared.fault.Field.TheVariants as rule
 use Rattle.mlp_syntax.specs.declared.params.Filter.{Filter}
 use Rattle.mlp_syntax.specs.declared.params.ChannelParams.{ChannelParams}
@@ -42,6 +42,10 @@ block_size_of unit_frames = ruled (must rule.BlockSize (λ n. nat_le 8 n && nat_
 abbrev pub output_shift : Layout ℕ
 output_shift = ruled (must rule.OutputShift (λ n. nat_lt n 8)) (number_of 4)
 
+-- what is given to each channel that the substream codes
+abbrev pub given_channels : ℕ → State → Layout (List (Option ChannelParams))
+given_channels flags s = each (λ c. group true (channel flags c)) (drop s.restart.min s.channels.items)
+
 -- what follows the presence flags, which are these from here on
 unfoldable pub groups : State → Option ℕ → ℕ → Layout Params
 groups s presence flags =
@@ -49,7 +53,7 @@ groups s presence flags =
     part (group (bit flags 6) (rows s.format s.restart)) (λ p. p.matrices) (λ matrices.
     part (group (bit flags 5) (listed (s.restart.max_matrix + 1) output_shift)) (λ p. p.shifts) (λ shifts.
     part (group (bit flags 4) (listed (s.restart.max + 1) (number_of 4))) (λ p. p.steps) (λ steps.
-    part (each (λ c. group true (channel flags c)) (drop s.restart.min s.channels.items)) (λ p. p.channels.items) (λ channels.
+    part (given_channels flags s) (λ p. p.channels.items) (λ channels.
     made (record { presence = presence; block_size = block_size; matrices = matrices; shifts = shifts; steps = steps; channels = record { items = channels } }))))))
 
 -- A group is there where its presence bit is set. The bits are those in force before the block up to the presence flags

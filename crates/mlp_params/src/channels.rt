@@ -123,7 +123,8 @@ fn read_given(
     in_force: &ChannelState,
     r: &mut BitReader,
 ) -> Result<Option<ChannelParams>, Broken>
-    ensures { Gives (λ x. x) r.old r.new result ((group true (channel flags in_force.now)).read r.old.all r.old.place) }
+    ensures { Gives (λ x. x) r.old r.new result
+        ((group true (channel flags in_force.now)).read r.old.all r.old.place) }
 {
     let given = flag(r)?;
     if !given {
@@ -141,7 +142,8 @@ pub fn read_channels(
     out: &mut ArrayVec<Option<ChannelParams>, 8>,
 ) -> Result<(), Broken>
     requires { length in_force.now ≤ 8 }
-    ensures { Gives (λ _. out.new.items) r.old r.new result ((each (λ c. group true (channel flags c)) in_force.now).read r.old.all r.old.place) }
+    ensures { Gives (λ _. out.new.items) r.old r.new result
+        ((each (λ c. group true (channel flags c)) in_force.now).read r.old.all r.old.place) }
 {
     out.clear();
     for state in in_force {

@@ -50,7 +50,8 @@ fn read_channel(max_matrix: u8, before: &[u8], r: &mut BitReader) -> Result<u8, 
 
 fn read_assigned(max_matrix: u8, r: &mut BitReader) -> Result<ArrayVec<u8, 8>, Broken>
     requires { max_matrix ≤ 7 }
-    ensures { Gives (λ v. v.items) r.old r.new result ((series (assigned max_matrix) (max_matrix + 1) []).read r.old.all r.old.place) }
+    ensures { Gives (λ v. v.items) r.old r.new result
+        ((series (assigned max_matrix) (max_matrix + 1) []).read r.old.all r.old.place) }
 {
     let mut assign: ArrayVec<u8, 8> = ArrayVec::new();
     for _ in 0..max_matrix + 1 {
@@ -113,8 +114,12 @@ fn read_fields(format: Kind, r: &mut BitReader) -> Result<Restart, Broken>
     })
 }
 
-/// Reads a restart header. Answers the first rule that fails in the order of its fields, from RestartWord up to
-/// RestartCheck, or SegmentShort at the first field whose bits aren't all there; places are bits from the reader's first.
+/// Reads a restart header.
+///
+/// # Errors
+///
+/// The first rule that fails in the order of its fields, from `RestartWord` up to `RestartCheck`, or `SegmentShort` at
+/// the first field whose bits aren't all there; places are bits from the reader's first.
 pub fn read_restart(kind: Kind, r: &mut BitReader) -> Result<Restart, Broken>
     ensures allowed { IfOk result (λ h. Allowed (restart kind) h) }
     ensures read { Gives (λ x. x) r.old r.new result ((restart kind).read r.old.all r.old.place) }

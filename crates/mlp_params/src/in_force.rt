@@ -4,6 +4,7 @@ ghost use Rattle.mlp_syntax.specs.declared.params.Params.{Params};
 ghost use Rattle.mlp_layout.specs.Allowed.{Allowed};
 ghost use Rattle.mlp_params.specs.RestartHeader.{restart};
 ghost use Rattle.mlp_params.specs.Parameters.{params};
+ghost use Rattle.mlp_params.specs.Filters.{absent};
 ghost use Rattle.mlp_params.specs.InForce.{in_force, restarted_channel, stateless};
 ghost use Rattle.mlp_params.specs.Applied.{applied, channel_applied, channels_applied};
 ghost use Rattle.mlp_params.specs.States.{IsState};
@@ -52,7 +53,7 @@ fn zeros(count: u8) -> ArrayVec<u8, 8>
 }
 
 fn absent<const N: usize>() -> Filter<N>
-    ensures { result ≡ record { shift = 0; coeff_bits = 0; coeff_shift = 0; coeffs = record { items = [] }; state = None } }
+    ensures { result ≡ absent }
 {
     Filter {
         shift: 0,
@@ -81,8 +82,8 @@ fn restart_channels(count: u8, out: &mut ArrayVec<ChannelState, 8>)
 }
 
 impl State {
-    /// What a restart puts in force: presence flags 0xFF, no matrices, blocks of 8 frames, all output shifts and steps 0,
-    /// and in each channel no filters, offset 0, no codebook and 24 low bits.
+    /// What a restart puts in force: presence flags 0xFF, no matrices, blocks of 8 frames, all output shifts and steps
+    /// 0, and in each channel no filters, offset 0, no codebook and 24 low bits.
     pub fn at_restart(format: Kind, unit_frames: u16, header: &Restart) -> State
         requires header { Allowed (restart format) header.now }
         requires least { 8 ≤ unit_frames }
@@ -222,8 +223,9 @@ pub fn apply(state: &mut State, given: &Params)
     requires state { IsState state.old }
     requires given { Allowed (params state.old) given.now }
     ensures step { state.new ≡ applied state.old given.now }
-    ensures behind { (earlier : List Params) → state.old ≡ in_force state.old.format state.old.unit_frames state.old.restart earlier
-        → state.new ≡ in_force state.old.format state.old.unit_frames state.old.restart (given.now ∷ earlier) }
+    ensures behind { (earlier : List Params) → let s = state.old in
+        s ≡ in_force s.format s.unit_frames s.restart earlier →
+        state.new ≡ in_force s.format s.unit_frames s.restart (given.now ∷ earlier) }
     ensures lawful { IsState state.new }
 {
     replace_items(state, given);

@@ -9,8 +9,6 @@ pub mod laws;
 mod matrices;
 mod parameters;
 mod state;
-#[cfg(test)]
-mod tests;
 mod write_channels;
 mod write_filters;
 mod write_header;

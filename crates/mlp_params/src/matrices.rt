@@ -52,7 +52,8 @@ fn read_coefficients(
 ) -> Result<ArrayVec<Option<i32>, 10>, Broken>
     requires width { width ≤ 16 }
     requires room { count ≤ 10 }
-    ensures { Gives (λ v. v.items) r.old r.new result ((times count (group true (signed_of width))).read r.old.all r.old.place) }
+    ensures { Gives (λ v. v.items) r.old r.new result
+        ((times count (group true (signed_of width))).read r.old.all r.old.place) }
 {
     let mut coeffs: ArrayVec<Option<i32>, 10> = ArrayVec::new();
     for _ in 0..count {

@@ -9,7 +9,7 @@ ghost use Rattle.mlp_layout.specs.Layout.{number_of};
 ghost use Rattle.mlp_layout.specs.Combined.{group, times, listed, each};
 ghost use Rattle.mlp_layout.specs.Allowed.{Allowed};
 ghost use Rattle.mlp_params.specs.Matrices.{rows};
-ghost use Rattle.mlp_params.specs.Parameters.{block_size_of, output_shift, channel, groups, params};
+ghost use Rattle.mlp_params.specs.Parameters.{block_size_of, output_shift, given_channels, groups, params};
 ghost use Rattle.mlp_params.specs.States.{IsState};
 
 use crate::channels::{has_bit, read_channels};
@@ -35,7 +35,8 @@ fn read_presence(there: bool, r: &mut BitReader) -> Result<Option<u8>, Broken>
 }
 
 fn read_block_size(there: bool, unit_frames: u16, r: &mut BitReader) -> Result<Option<u16>, Broken>
-    ensures { Gives (λ x. x) r.old r.new result ((group there (block_size_of unit_frames)).read r.old.all r.old.place) }
+    ensures { Gives (λ x. x) r.old r.new result
+        ((group there (block_size_of unit_frames)).read r.old.all r.old.place) }
 {
     if !there {
         return Ok(None);
@@ -102,7 +103,8 @@ fn read_shifts_if(
     r: &mut BitReader,
 ) -> Result<Option<ArrayVec<u8, 8>>, Broken>
     requires { count ≤ 8 }
-    ensures { Gives (λ x. x) r.old r.new result ((group there (listed count output_shift)).read r.old.all r.old.place) }
+    ensures { Gives (λ x. x) r.old r.new result
+        ((group there (listed count output_shift)).read r.old.all r.old.place) }
 {
     if !there {
         return Ok(None);
@@ -134,7 +136,8 @@ fn read_steps_if(
     r: &mut BitReader,
 ) -> Result<Option<ArrayVec<u8, 8>>, Broken>
     requires { count ≤ 8 }
-    ensures { Gives (λ x. x) r.old r.new result ((group there (listed count (number_of 4))).read r.old.all r.old.place) }
+    ensures { Gives (λ x. x) r.old r.new result
+        ((group there (listed count (number_of 4))).read r.old.all r.old.place) }
 {
     if !there {
         return Ok(None);
@@ -167,7 +170,8 @@ fn read_coded(
 ) -> Result<(), Broken>
     requires least { state.now.restart.min ≤ array_vec_len state.now.channels }
     requires most { array_vec_len state.now.channels ≤ 8 }
-    ensures { Gives (λ _. out.new.items) r.old r.new result ((each (λ c. group true (channel flags c)) (drop state.now.restart.min state.now.channels.items)).read r.old.all r.old.place) }
+    ensures { Gives (λ _. out.new.items) r.old r.new result
+        ((given_channels flags state.now).read r.old.all r.old.place) }
 {
     read_channels(flags, coded(state), r, out)
 }
@@ -207,7 +211,9 @@ fn read_all(state: &State, r: &mut BitReader, out: &mut Params) -> Result<(), Br
 
 /// Reads the decoding parameters of a block, against what is in force before it, in place of those in `out`.
 ///
-/// Answers the first rule that fails in the order of the fields, from BlockSize up to HuffLsbs, or SegmentShort at the
+/// # Errors
+///
+/// The first rule that fails in the order of the fields, from `BlockSize` up to `HuffLsbs`, or `SegmentShort` at the
 /// first field whose bits aren't all there; places are bits from the reader's first. `out` is of no use then.
 #[tactic(auto)]
 pub fn read_params_into(state: &State, r: &mut BitReader, out: &mut Params) -> Result<(), Broken>
@@ -219,7 +225,11 @@ pub fn read_params_into(state: &State, r: &mut BitReader, out: &mut Params) -> R
     read_all(state, r, out)
 }
 
-/// Reads the decoding parameters of a block as `read_params_into` does.
+/// Reads the decoding parameters of a block, against what is in force before it.
+///
+/// # Errors
+///
+/// Those of `read_params_into`.
 #[tactic(auto)]
 pub fn read_params(state: &State, r: &mut BitReader) -> Result<Params, Broken>
     requires { IsState state.now }

@@ -26,7 +26,8 @@ pub struct State {
     pub unit_frames: u16,
     /// The header of the last restart.
     pub restart: Restart,
-    /// The presence flags: bit 7 block size, 6 matrices, 5 output shifts, 4 steps, 3 FIR, 2 IIR, 1 offset, 0 themselves.
+    /// The presence flags: bit 7 block size, 6 matrices, 5 output shifts, 4 steps, 3 FIR, 2 IIR, 1 offset,
+    /// 0 themselves.
     pub presence: u8,
     /// The number of frames of a block, from 8 to those of an access unit.
     pub block_size: u16,

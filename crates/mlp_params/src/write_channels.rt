@@ -69,7 +69,8 @@ fn write_channel(flags: u8, given: &ChannelParams, w: &mut BitWriter) -> Result<
 /// The parameters of a channel behind its flag.
 fn write_given(flags: u8, parameters: &Option<ChannelParams>, w: &mut BitWriter) -> Result<(), Full>
     requires { IfSome parameters.now (λ c. ChannelParts flags c) }
-    ensures { (in_force : ChannelState) → Writes w.old w.new result ((group true (channel flags in_force)).spelling parameters.now) }
+    ensures { (in_force : ChannelState) →
+        Writes w.old w.new result ((group true (channel flags in_force)).spelling parameters.now) }
 {
     match parameters {
         None => write_absent(true, w),

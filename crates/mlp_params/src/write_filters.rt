@@ -34,7 +34,8 @@ pub fn write_absent(there: bool, w: &mut BitWriter) -> Result<(), Full>
 pub fn write_numbers(values: &[u8], width: u32, w: &mut BitWriter) -> Result<(), Full>
     requires width { width ≤ 32 }
     requires values { (n : ℕ) × (times n (number_of width)).Fits values.now }
-    ensures { (n : ℕ) → (times n (number_of width)).Fits values.now → Writes w.old w.new result ((times n (number_of width)).spelling values.now) }
+    ensures { (n : ℕ) → (times n (number_of width)).Fits values.now →
+        Writes w.old w.new result ((times n (number_of width)).spelling values.now) }
 {
     let _place = w.place();
     for value in values {
@@ -60,7 +61,8 @@ pub fn write_signed(value: i32, width: u8, w: &mut BitWriter) -> Result<(), Full
 fn write_values(values: &[i32], width: u8, w: &mut BitWriter) -> Result<(), Full>
     requires width { width ≤ 16 }
     requires values { (n : ℕ) × (times n (signed_of width)).Fits values.now }
-    ensures { (n : ℕ) → (times n (signed_of width)).Fits values.now → Writes w.old w.new result ((times n (signed_of width)).spelling values.now) }
+    ensures { (n : ℕ) → (times n (signed_of width)).Fits values.now →
+        Writes w.old w.new result ((times n (signed_of width)).spelling values.now) }
 {
     let _place = w.place();
     for value in values {
@@ -72,7 +74,8 @@ fn write_values(values: &[i32], width: u8, w: &mut BitWriter) -> Result<(), Full
 #[tactic(auto, unfolding(mlp_layout::specs::Layout::part, mlp_layout::specs::Layout::made, mlp_layout::specs::Layout::number_of, crate::specs::Filters::filter_state))]
 fn write_state(state: &FilterState, w: &mut BitWriter) -> Result<(), Full>
     requires { (n : ℕ) × (filter_state n).Fits state.now }
-    ensures { (n : ℕ) → (filter_state n).Fits state.now → Writes w.old w.new result ((filter_state n).spelling state.now) }
+    ensures { (n : ℕ) → (filter_state n).Fits state.now →
+        Writes w.old w.new result ((filter_state n).spelling state.now) }
 {
     let bits = u32::from(state.bits);
     let shift = u32::from(state.shift);
@@ -83,7 +86,8 @@ fn write_state(state: &FilterState, w: &mut BitWriter) -> Result<(), Full>
 /// The flag of a state, and the state.
 fn write_state_if(state: &Option<FilterState>, w: &mut BitWriter) -> Result<(), Full>
     requires { (n : ℕ) × (group true (filter_state n)).Fits state.now }
-    ensures { (n : ℕ) → (group true (filter_state n)).Fits state.now → Writes w.old w.new result ((group true (filter_state n)).spelling state.now) }
+    ensures { (n : ℕ) → (group true (filter_state n)).Fits state.now →
+        Writes w.old w.new result ((group true (filter_state n)).spelling state.now) }
 {
     match state {
         None => write_absent(true, w),
@@ -97,7 +101,8 @@ fn write_state_if(state: &Option<FilterState>, w: &mut BitWriter) -> Result<(), 
 /// A filter.
 pub fn write_filter<const N: usize>(given: &Filter<N>, w: &mut BitWriter) -> Result<(), Full>
     requires { (has_state : Bool) × Allowed (filter N has_state) given.now }
-    ensures { (has_state : Bool) → Allowed (filter N has_state) given.now → Writes w.old w.new result ((filter N has_state).spelling given.now) }
+    ensures { (has_state : Bool) → Allowed (filter N has_state) given.now →
+        Writes w.old w.new result ((filter N has_state).spelling given.now) }
 {
     let order = given.coeffs.len() as u32;
     if order == 0 {

@@ -42,8 +42,11 @@ fn write_fields(header: &Restart, w: &mut BitWriter) -> Result<(), Full>
     write_numbers(&header.assign, 6, w)
 }
 
-/// Writes a restart header with its check: its one spelling, which is the same for both kinds of streams. Answers `Full`
-/// exactly where the bits would pass 65,520; the writer then has its old bits and the first of the new ones.
+/// Writes a restart header with its check: its one spelling, which is the same for both kinds of streams.
+///
+/// # Errors
+///
+/// `Full` exactly where the bits would pass 65,520; the writer then has its old bits and the first of the new ones.
 pub fn write_restart(header: &Restart, w: &mut BitWriter) -> Result<(), Full>
     requires { (format : Kind) × (restart format).Fits header.now }
     ensures { (format : Kind) → Writes w.old w.new result ((restart format).spelling header.now) }

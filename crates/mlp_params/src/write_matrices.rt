@@ -30,7 +30,8 @@ fn write_coefficient(coefficient: &Option<i32>, width: u8, w: &mut BitWriter) ->
 fn write_coefficients(coeffs: &[Option<i32>], width: u8, w: &mut BitWriter) -> Result<(), Full>
     requires width { width ≤ 16 }
     requires coeffs { (n : ℕ) × (times n (group true (signed_of width))).Fits coeffs.now }
-    ensures { (n : ℕ) → (times n (group true (signed_of width))).Fits coeffs.now → Writes w.old w.new result ((times n (group true (signed_of width))).spelling coeffs.now) }
+    ensures { (n : ℕ) → (times n (group true (signed_of width))).Fits coeffs.now →
+        Writes w.old w.new result ((times n (group true (signed_of width))).spelling coeffs.now) }
 {
     let _place = w.place();
     for coefficient in coeffs {

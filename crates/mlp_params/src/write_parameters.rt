@@ -112,8 +112,11 @@ fn write_groups(state: &State, given: &Params, flags: u8, w: &mut BitWriter) -> 
     write_channels(flags, &given.channels, w)
 }
 
-/// Writes the parameters of a block, against what is in force before it: their one spelling. Answers `Full` exactly where
-/// the bits would pass 65,520; the writer then has its old bits and the first of the new ones.
+/// Writes the parameters of a block, against what is in force before it: their one spelling.
+///
+/// # Errors
+///
+/// `Full` exactly where the bits would pass 65,520; the writer then has its old bits and the first of the new ones.
 pub fn write_params(state: &State, given: &Params, w: &mut BitWriter) -> Result<(), Full>
     requires state { IsState state.now }
     requires given { Allowed (params state.now) given.now }

@@ -146,7 +146,8 @@ fn make_room_in_all(count: usize, frames: &mut [FrameCode])
     }
 }
 
-/// Makes room for so many codes in each frame, unless there is in the first: frames that were read together have as many.
+/// Makes room for so many codes in each frame, unless there is in the first: frames that were read together have as
+/// many.
 fn make_room_by_first(count: usize, frames: &mut [FrameCode])
     requires { count ≤ 8 }
     ensures { (other : FrameCode) → 0 < length frames.new →
@@ -235,7 +236,8 @@ fn fill_up(count: usize, out: &mut ArrayVec<FrameCode, 160>)
 ///
 /// # Errors
 ///
-/// `Code` or `SegmentShort` at the first place that has a fault; what stands behind the first `first` is of no use then.
+/// `Code` or `SegmentShort` at the first place that has a fault; what stands behind the first `first` is of no use
+/// then.
 pub fn read_coded(
     coding: &Coding,
     first: usize,

@@ -104,8 +104,8 @@ pub fn coding_in_force(state: &State) -> Coding
 ///
 /// # Errors
 ///
-/// `Code` at nine bits that are no code, or `SegmentShort` at a field whose bits aren't all there: the first such place.
-/// What stands behind the first `first` is of no use then.
+/// `Code` at nine bits that are no code, or `SegmentShort` at a field whose bits aren't all there: the first such
+/// place. What stands behind the first `first` is of no use then.
 #[tactic(auto, unfolding(crate::specs::Frames::frames_of))]
 pub fn read_frames_behind(
     state: &State,

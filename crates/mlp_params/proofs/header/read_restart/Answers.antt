@@ -23,7 +23,8 @@ unfolding restart
 returns-in_err-check-clause-read c =
     let p = err_from_is_err_and c.from_residual-in_err-check.result c.from_residual-in_err-check.ensures.1 in
     let h = c.in_ok-header.ensures in
-    rw (p.1, p.2) (check_short 8 restart_check_of rule.RestartCheck (restart_fields c.args.kind) c.args.r.now.all c.args.r.now.place c.in_ok-header.header c.read_fields.new.r.place c.in_err-check.field-0.0 h.0 (rw (← h.1) c.in_err-check.ensures.read))
+    rw (p.1, p.2) (check_short 8 restart_check_of rule.RestartCheck (restart_fields c.args.kind) c.args.r.now.all c.args.r.now.place c.in_ok-header.header c.read_fields.new.r.place c.in_err-check.field-0.0 h.0
+    (rw (← h.1) c.in_err-check.ensures.read))
 
 pub returns-then-check-sum-clause-read : goal.returns-then-check-sum-clause-read
 unfolding restart
@@ -32,7 +33,8 @@ returns-then-check-sum-clause-read c =
     let k = c.in_ok-check.ensures.read in
     let r = c.args.r.now in
     let m = c.read_fields.new.r in
-    let read = check_fails 8 restart_check_of rule.RestartCheck (restart_fields c.args.kind) r.all r.place (restart_fields_is c.args.kind) c.place-first.ensures.within c.in_ok-header.header m.place c.in_ok-check.check c.byte.new.r.place h.0 (rw (← h.1) k.0)
+    let read = check_fails 8 restart_check_of rule.RestartCheck (restart_fields c.args.kind) r.all r.place (restart_fields_is c.args.kind) c.place-first.ensures.within c.in_ok-header.header m.place c.in_ok-check.check
+    c.byte.new.r.place h.0 (rw (← h.1) k.0)
     (λ e. c.if-check-sum.true (e ∙ sym (sum_is c.restart_check_since-sum.result c.place-first.result m r c.restart_check_since-sum.ensures c.place-first.ensures.value h.1))) in
     rw (c.broken.ensures, c.place-at.ensures.value) read
 
@@ -43,6 +45,7 @@ returns c =
     let k = c.in_ok-check.ensures.read in
     let r = c.args.r.now in
     let m = c.read_fields.new.r in
-    let read = check_ok 8 restart_check_of rule.RestartCheck (restart_fields c.args.kind) r.all r.place (restart_fields_is c.args.kind) c.place-first.ensures.within c.in_ok-header.header m.place c.in_ok-check.check c.byte.new.r.place h.0 (rw (← h.1) k.0)
+    let read = check_ok 8 restart_check_of rule.RestartCheck (restart_fields c.args.kind) r.all r.place (restart_fields_is c.args.kind) c.place-first.ensures.within c.in_ok-header.header m.place c.in_ok-check.check
+    c.byte.new.r.place h.0 (rw (← h.1) k.0)
     (c.if-check-sum.false ∙ sum_is c.restart_check_since-sum.result c.place-first.result m r c.restart_check_since-sum.ensures c.place-first.ensures.value h.1) in
     record { allowed = allowed (restart_is c.args.kind) r.all r.place c.place-first.ensures.within c.in_ok-header.header c.byte.new.r.place read; read = (read, k.1 ∙ h.1, omega (arith, h.2, k.2)) }

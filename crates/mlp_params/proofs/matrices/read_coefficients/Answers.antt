@@ -16,7 +16,13 @@ loop-preserved c =
     let i = c.loop.invariant in
     let read = c.in_ok-coefficient.ensures in
     let on = goes_on (group true (signed_of c.args.width)) c.loop.coeffs.items c.args.count c.loop.counter c.loop.r.all c.loop.r.place c.read_coefficient.new.r.place c.in_ok-coefficient.coefficient _ c.loop-test.true read.0 i.so_far in
-    record { moved = omega (arith, i.moved, read.2); so_far = rw (c.push.ensures.items, read.1) on; same_bits = read.1 ∙ i.same_bits; count = rw c.push.ensures.items (omega (arith, length_push c.loop.coeffs.items c.in_ok-coefficient.coefficient, i.count)) }
+    record {
+      moved = omega (arith, i.moved, read.2);
+      so_far = rw (c.push.ensures.items, read.1) on;
+      same_bits = read.1
+          ∙ i.same_bits;
+      count = rw c.push.ensures.items (omega (arith, length_push c.loop.coeffs.items c.in_ok-coefficient.coefficient, i.count));
+    }
 
 pub returns : goal.returns
 returns c =

@@ -21,12 +21,21 @@ pub returns-in_err-write_given : goal.returns-in_err-write_given
 returns-in_err-write_given c = λ ss count.
     let p = err_from_is_err_and c.from_residual.result c.from_residual.ensures.1 in
     let h = c.in_err-write_given.ensures restarted_channel in
-    rw p.1 (writes_as (channels_text c.args.flags ss c.args.channels.now count) (record { ok = tt; err = text_stops (any_channel c.args.flags) c.args.channels.now c.loop-parameters.parameters-index c.parameters-item.result c.loop-parameters-test.true c.parameters-item.is c.args.w.now c.loop-parameters.w c.loop-parameters.invariant c.write_given.new.w h.err }))
+    rw p.1 (writes_as (channels_text c.args.flags ss c.args.channels.now count) (record {
+      ok = tt;
+      err = text_stops (any_channel c.args.flags) c.args.channels.now c.loop-parameters.parameters-index c.parameters-item.result
+          c.loop-parameters-test.true c.parameters-item.is c.args.w.now c.loop-parameters.w c.loop-parameters.invariant c.write_given.new.w h.err;
+    }))
 
 pub loop-parameters-preserved : goal.loop-parameters-preserved
 loop-parameters-preserved c =
     let h = c.in_ok-write_given.ensures restarted_channel in
-    text_goes_on (any_channel c.args.flags) c.args.channels.now c.loop-parameters.parameters-index c.parameters-item.result c.loop-parameters-test.true c.parameters-item.is c.args.w.now c.loop-parameters.w c.loop-parameters.invariant c.write_given.new.w h.ok
+    text_goes_on (any_channel c.args.flags) c.args.channels.now c.loop-parameters.parameters-index c.parameters-item.result c.loop-parameters-test.true c.parameters-item.is c.args.w.now c.loop-parameters.w
+    c.loop-parameters.invariant c.write_given.new.w h.ok
 
 pub returns : goal.returns
-returns c = λ ss count. writes_as (channels_text c.args.flags ss c.args.channels.now count) (record { ok = text_done (any_channel c.args.flags) c.args.channels.now c.loop-parameters.parameters-index c.args.w.now c.loop-parameters.w (omega arith) c.loop-parameters.invariant; err = tt })
+returns c = λ ss count. writes_as (channels_text c.args.flags ss c.args.channels.now count) (record {
+  ok = text_done (any_channel c.args.flags) c.args.channels.now c.loop-parameters.parameters-index c.args.w.now
+      c.loop-parameters.w (omega arith) c.loop-parameters.invariant;
+  err = tt;
+})

@@ -28,7 +28,8 @@ returns-in_err-put_all g c = λ b allowed.
     let f = c.args.given.now in
     let some : order_of f ≢ 0 = λ e. c.if-order-eq0.false (c.len-order.ensures.value ∙ e) in
     let a = rw (c.len-order.ensures.value, c.from-shift.ensures, c.from-coeff_bits.ensures, c.from-coeff_shift.ensures) at c.in_err-put_all.ensures in
-    writes_as (filter_text g.row.N b f some) (fields_stop _ ((order_of f, 4) ∷ (f.shift, 4) ∷ (f.coeff_bits, 5) ∷ (f.coeff_shift, 3) ∷ []) ((times (order_of f) (signed_of f.coeff_bits)).spelling f.coeffs.items ++ (group true (filter_state (order_of f))).spelling f.state) c.from_residual.result c.from_residual.ensures.1 a)
+    writes_as (filter_text g.row.N b f some) (fields_stop _ ((order_of f, 4) ∷ (f.shift, 4) ∷ (f.coeff_bits, 5) ∷ (f.coeff_shift, 3) ∷ [])
+    ((times (order_of f) (signed_of f.coeff_bits)).spelling f.coeffs.items ++ (group true (filter_state (order_of f))).spelling f.state) c.from_residual.result c.from_residual.ensures.1 a)
 
 pub write_values-requires : goal.write_values-requires
 write_values-requires g c =

@@ -11,15 +11,22 @@ loop-value-init c = begins (number_of c.args.width) c.args.values.now c.args.w.n
 pub put_number-requires-clause-value : goal.put_number-requires-clause-value
 unfolding number_of
 put_number-requires-clause-value c =
-    rw c.from.ensures (fits_here (number_of c.args.width) c.args.values.now c.loop-value.value-index (get_or c.args.values.now c.loop-value.value-index 0) c.loop-value-test.true (get_or_default c.args.values.now c.loop-value.value-index 0 _ c.loop-value-test.true) c.args.w.now c.loop-value.w c.loop-value.invariant)
+    rw c.from.ensures (fits_here (number_of c.args.width) c.args.values.now c.loop-value.value-index (get_or c.args.values.now c.loop-value.value-index 0) c.loop-value-test.true
+    (get_or_default c.args.values.now c.loop-value.value-index 0 _ c.loop-value-test.true) c.args.w.now c.loop-value.w c.loop-value.invariant)
 
 pub returns-in_err-put_number : goal.returns-in_err-put_number
 returns-in_err-put_number c =
     let p = err_from_is_err_and c.from_residual.result c.from_residual.ensures.1 in
-    rw p.1 (all_written (number_of c.args.width) c.args.values.now (record { ok = tt; err = stops (number_of c.args.width) c.args.values.now c.loop-value.value-index (get_or c.args.values.now c.loop-value.value-index 0) c.loop-value-test.true (get_or_default c.args.values.now c.loop-value.value-index 0 _ c.loop-value-test.true) c.args.w.now c.loop-value.w c.loop-value.invariant c.put_number.new.w (rw (← c.from.ensures) c.in_err-put_number.ensures.err) }))
+    rw p.1 (all_written (number_of c.args.width) c.args.values.now (record {
+      ok = tt;
+      err = stops (number_of c.args.width) c.args.values.now c.loop-value.value-index (get_or c.args.values.now c.loop-value.value-index 0)
+          c.loop-value-test.true (get_or_default c.args.values.now c.loop-value.value-index 0 _ c.loop-value-test.true) c.args.w.now c.loop-value.w c.loop-value.invariant c.put_number.new.w
+          (rw (← c.from.ensures) c.in_err-put_number.ensures.err);
+    }))
 
 pub loop-value-preserved : goal.loop-value-preserved
-loop-value-preserved c = goes_on (number_of c.args.width) c.args.values.now c.loop-value.value-index (get_or c.args.values.now c.loop-value.value-index 0) c.loop-value-test.true (get_or_default c.args.values.now c.loop-value.value-index 0 _ c.loop-value-test.true) c.args.w.now c.loop-value.w c.loop-value.invariant c.put_number.new.w (rw (← c.from.ensures) c.in_ok-put_number.ensures.ok)
+loop-value-preserved c = goes_on (number_of c.args.width) c.args.values.now c.loop-value.value-index (get_or c.args.values.now c.loop-value.value-index 0) c.loop-value-test.true
+    (get_or_default c.args.values.now c.loop-value.value-index 0 _ c.loop-value-test.true) c.args.w.now c.loop-value.w c.loop-value.invariant c.put_number.new.w (rw (← c.from.ensures) c.in_ok-put_number.ensures.ok)
 
 pub returns : goal.returns
 returns c = all_written (number_of c.args.width) c.args.values.now (record { ok = is_done (number_of c.args.width) c.args.values.now c.loop-value.value-index c.args.w.now c.loop-value.w (omega arith) c.loop-value.invariant; err = tt })

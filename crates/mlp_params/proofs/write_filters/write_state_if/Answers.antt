@@ -13,4 +13,5 @@ pub returns-in-None : goal.returns-in-None
 returns-in-None c = rw c.in-None.is (λ n fits. writes_none true (filter_state n) c.write_absent.ensures)
 
 pub returns-in_ok-put_flag-in-Some : goal.returns-in_ok-put_flag-in-Some
-returns-in_ok-put_flag-in-Some c = rw c.in-Some.is (λ n fits. writes_some true (filter_state n) c.in-Some.given c.put_flag.new.w fits c.in_ok-put_flag-in-Some.ensures (c.write_state.ensures n (some_fits true (filter_state n) c.in-Some.given fits)))
+returns-in_ok-put_flag-in-Some c = rw c.in-Some.is (λ n fits. writes_some true (filter_state n) c.in-Some.given c.put_flag.new.w fits c.in_ok-put_flag-in-Some.ensures
+    (c.write_state.ensures n (some_fits true (filter_state n) c.in-Some.given fits)))

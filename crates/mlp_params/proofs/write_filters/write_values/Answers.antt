@@ -23,7 +23,11 @@ returns-in_err-write_signed c =
     let at = get_or_default c.args.values.now c.loop-value.value-index (pos 0) x c.loop-value-test.true in
     let fits = fits_here (signed_of c.args.width) c.args.values.now c.loop-value.value-index x c.loop-value-test.true at c.args.w.now c.loop-value.w c.loop-value.invariant in
     let filled = rw (kept c.args.width x (omega arith) fits) at c.in_err-write_signed.ensures.err in
-    rw p.1 (all_written (signed_of c.args.width) c.args.values.now (record { ok = tt; err = stops (signed_of c.args.width) c.args.values.now c.loop-value.value-index x c.loop-value-test.true at c.args.w.now c.loop-value.w c.loop-value.invariant c.write_signed.new.w filled }))
+    rw p.1 (all_written (signed_of c.args.width) c.args.values.now (record {
+      ok = tt;
+      err = stops (signed_of c.args.width) c.args.values.now c.loop-value.value-index x c.loop-value-test.true at c.args.w.now c.loop-value.w
+          c.loop-value.invariant c.write_signed.new.w filled;
+    }))
 
 pub loop-value-preserved : goal.loop-value-preserved
 loop-value-preserved c =

@@ -31,7 +31,8 @@ returns c = λ format.
     let old = c.args.w.now in
     let text = (restart_fields format).spelling c.args.header.now in
     let a = c.in_ok-write_fields.ensures format in
-    let new : drop c.place-first.result c.write_fields.new.w ≡ text = ap (λ (n : ℕ). drop n c.write_fields.new.w) c.place-first.ensures.value ∙ ap (λ (t : List Bool). drop (length old) t) a.ok.appended ∙ drop_at old text (length old) refl in
+    let new : drop c.place-first.result c.write_fields.new.w ≡ text = ap (λ (n : ℕ). drop n c.write_fields.new.w) c.place-first.ensures.value ∙ ap (λ (t : List Bool). drop (length old) t) a.ok.appended
+    ∙ drop_at old text (length old) refl in
     let check : c.from.result ≡ restart_check_of text = c.from.ensures ∙ c.restart_check_since-check.ensures ∙ ap restart_check_of new in
     let b = writes_as (ap (λ (n : ℕ). bits 8 n) check) c.put_number.ensures in
     then_writes a (ends_with b)

@@ -17,7 +17,8 @@ returns-in_err-put_all c =
     let r = c.args.restart.now in
     let m = c.args.given.now in
     let a = rw (c.from-dest.ensures, c.from-frac.ensures, c.digit-bypass.ensures.value) at c.in_err-put_all.ensures in
-    writes_as (row_text r m) (fields_stop _ ((m.dest, 4) ∷ (m.frac, 4) ∷ (digit m.bypass, 1) ∷ []) ((times (sources r) (group true (signed_of (m.frac + 2)))).spelling m.coeffs.items ++ ((noise_shift_of r.kind).spelling m.noise_shift ++ [])) c.from_residual.result c.from_residual.ensures.1 a)
+    writes_as (row_text r m) (fields_stop _ ((m.dest, 4) ∷ (m.frac, 4) ∷ (digit m.bypass, 1) ∷ []) ((times (sources r) (group true (signed_of (m.frac + 2)))).spelling m.coeffs.items ++
+    ((noise_shift_of r.kind).spelling m.noise_shift ++ [])) c.from_residual.result c.from_residual.ensures.1 a)
 
 pub overflow_add-given : goal.overflow_add-given
 overflow_add-given c = let fits = row_fits c.args.restart.now c.args.given.now c.requires in record { fits = omega (arith, fits.width) }
@@ -37,7 +38,8 @@ returns-in_err-write_coefficients c =
     let fits = row_fits r m c.requires in
     let a = rw (c.from-dest.ensures, c.from-frac.ensures, c.digit-bypass.ensures.value) at c.in_ok-put_all.ensures in
     let b = rw c.deref.ensures.0 at c.in_err-write_coefficients.ensures in
-    writes_as (row_text r m) (fields_then ((m.dest, 4) ∷ (m.frac, 4) ∷ (digit m.bypass, 1) ∷ []) a (stops_writing _ ((noise_shift_of r.kind).spelling m.noise_shift ++ []) c.from_residual-in_err-write_coefficients.result c.from_residual-in_err-write_coefficients.ensures.1 (b (sources r) fits.coeffs)))
+    writes_as (row_text r m) (fields_then ((m.dest, 4) ∷ (m.frac, 4) ∷ (digit m.bypass, 1) ∷ []) a (stops_writing _ ((noise_shift_of r.kind).spelling m.noise_shift ++ []) c.from_residual-in_err-write_coefficients.result
+    c.from_residual-in_err-write_coefficients.ensures.1 (b (sources r) fits.coeffs)))
 
 pub returns : goal.returns
 returns c =

@@ -18,10 +18,15 @@ write_row-requires c =
 pub returns-in_err-write_row : goal.returns-in_err-write_row
 returns-in_err-write_row c =
     let p = err_from_is_err_and c.from_residual.result c.from_residual.ensures.1 in
-    rw p.1 (record { ok = tt; err = text_stops (row c.args.restart.now) c.args.given.now c.loop-matrix.matrix-index c.matrix-item.result c.loop-matrix-test.true c.matrix-item.is c.args.w.now c.loop-matrix.w c.loop-matrix.invariant c.write_row.new.w c.in_err-write_row.ensures.err })
+    rw p.1 (record {
+      ok = tt;
+      err = text_stops (row c.args.restart.now) c.args.given.now c.loop-matrix.matrix-index c.matrix-item.result c.loop-matrix-test.true c.matrix-item.is c.args.w.now c.loop-matrix.w
+          c.loop-matrix.invariant c.write_row.new.w c.in_err-write_row.ensures.err;
+    })
 
 pub loop-matrix-preserved : goal.loop-matrix-preserved
-loop-matrix-preserved c = text_goes_on (row c.args.restart.now) c.args.given.now c.loop-matrix.matrix-index c.matrix-item.result c.loop-matrix-test.true c.matrix-item.is c.args.w.now c.loop-matrix.w c.loop-matrix.invariant c.write_row.new.w c.in_ok-write_row.ensures.ok
+loop-matrix-preserved c = text_goes_on (row c.args.restart.now) c.args.given.now c.loop-matrix.matrix-index c.matrix-item.result c.loop-matrix-test.true c.matrix-item.is c.args.w.now c.loop-matrix.w c.loop-matrix.invariant
+    c.write_row.new.w c.in_ok-write_row.ensures.ok
 
 pub returns : goal.returns
 returns c = record { ok = text_done (row c.args.restart.now) c.args.given.now c.loop-matrix.matrix-index c.args.w.now c.loop-matrix.w (omega arith) c.loop-matrix.invariant; err = tt }

@@ -20,4 +20,5 @@ returns-in-None c = rw c.in-None.is (λ n a. writes_none c.args.there (listed n 
 pub returns-in_ok-put_flag-in-Some : goal.returns-in_ok-put_flag-in-Some
 returns-in_ok-put_flag-in-Some c = rw c.in-Some.is (λ n h.
     let a = some_allowed c.args.there (listed n (number_of 4)) c.in-Some.given h in
-    writes_some c.args.there (listed n (number_of 4)) c.in-Some.given c.put_flag.new.w h.fits c.in_ok-put_flag-in-Some.ensures (let b = rw c.deref.ensures.0 at c.write_numbers.ensures in writes_as (listed_text n (number_of 4) c.in-Some.given) (ends_with (b n (listed_fits n (number_of 4) c.in-Some.given a.fits)))))
+    writes_some c.args.there (listed n (number_of 4)) c.in-Some.given c.put_flag.new.w h.fits c.in_ok-put_flag-in-Some.ensures
+    (let b = rw c.deref.ensures.0 at c.write_numbers.ensures in writes_as (listed_text n (number_of 4) c.in-Some.given) (ends_with (b n (listed_fits n (number_of 4) c.in-Some.given a.fits)))))

@@ -25,7 +25,14 @@ returns-clause-value c =
     let r = ranges _ _ c.requires.header in
     let header = c.args.header.now in
     let channels = c.restart_channels.ensures ∙ all_restarted header.min (header.max + 1) (omega (arith, r.order)) in
-    rw (c.copied_restart-self.ensures, same_vec c.clear.new.self _ c.clear.ensures, same_vec c.zeros-self.result _ c.zeros-self.ensures, same_vec c.zeros-self-2.result _ c.zeros-self-2.ensures, same_vec c.restart_channels.new.out _ channels) refl
+    rw (
+      c.copied_restart-self.ensures,
+      same_vec c.clear.new.self _ c.clear.ensures,
+      same_vec c.zeros-self.result _ c.zeros-self.ensures,
+      same_vec c.zeros-self-2.result _ c.zeros-self-2.ensures,
+      same_vec
+          c.restart_channels.new.out _ channels,
+    ) refl
 
 pub returns-clause-lawful : goal.returns-clause-lawful
 returns-clause-lawful c = subst IsState (sym (returns-clause-value c)) (restart_is_state c.args.format c.args.unit_frames c.args.header.now c.requires.header c.requires.least c.requires.most)
