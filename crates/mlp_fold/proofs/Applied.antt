@@ -1,8 +1,8 @@
 -- The rows and steps of a substream are rows that can be applied.
-use Rattle.std.proofs.Common.{◌≡◌, ℕ, zero, suc, ◌-◌, ◌<◌, ◌≤◌, List, [], ◌∷◌, length, ℤ, pos, negsuc, Bool, true, false, arith, refl, sym, subst, inl, inr}
+use Rattle.std.proofs.Common.{◌≡◌, ℕ, zero, suc, ◌-◌, ◌<◌, ◌≤◌, List, [], ◌∷◌, length, ℤ, pos, negsuc, Bool, true, arith, refl, sym, subst, inl, inr}
 use Rattle.std.specs.Prelude.{◌&&◌, nat_lt, nat_le, All}
 use Rattle.std.proofs.lemmas.Int.{ints}
-use Rattle.std.proofs.lemmas.Bool.{ltb-true, leb-true}
+use Rattle.std.proofs.lemmas.Bool.{ltb-true, leb-true, and_parts}
 use Rattle.std.proofs.lemmas.Bool.Decides.{eqb_tells}
 use Rattle.std.proofs.lemmas.List.Elements.{All-cons, All-replicate}
 use Rattle.mlp_syntax.specs.declared.params.MatrixRow.{MatrixRow}
@@ -15,10 +15,6 @@ use Rattle.mlp_fold.specs.Mix.{channels_of}
 use Rattle.mlp_fold.specs.Rows.{side_row, rows_of, fold_rows, bypass_rows, steps_of, steps_by, bypass_steps}
 
 -- ---- tests that compute
-
-both : (a b : Bool) → (a && b) ≡ true → (a ≡ true) × (b ≡ true)
-both true b e = (refl, e)
-both false b e = let n : ⊥ = cc in absurd n
 
 abbrev is_small : ℤ → Bool
 is_small (pos n) = nat_lt n 32768
@@ -44,12 +40,12 @@ none_small k d h = absurd (omega arith)
 
 smalls : (cs : List ℤ) → are_small cs ≡ true → All IsCoefficient cs
 smalls [] e = none_small
-smalls (c ∷ cs) e = let h = both (is_small c) (are_small cs) e in All-cons IsCoefficient c cs (small c h.0) (smalls cs h.1)
+smalls (c ∷ cs) e = let h = and_parts (is_small c) (are_small cs) e in All-cons IsCoefficient c cs (small c h.0) (smalls cs h.1)
 
 a_row : (channels : ℕ) (row : MatrixRow) → is_row channels row ≡ true → IsRow channels row
 a_row channels row e =
-    let h = both (nat_lt row.dest channels) (nat_le row.frac 14 && are_small (weights_of row.frac row.coeffs.items)) e in
-    let k = both (nat_le row.frac 14) (are_small (weights_of row.frac row.coeffs.items)) h.1 in
+    let h = and_parts (nat_lt row.dest channels) (nat_le row.frac 14 && are_small (weights_of row.frac row.coeffs.items)) e in
+    let k = and_parts (nat_le row.frac 14) (are_small (weights_of row.frac row.coeffs.items)) h.1 in
     record { dest = ltb-true row.dest channels h.0; frac = leb-true row.frac 14 k.0; small = smalls (weights_of row.frac row.coeffs.items) k.1 }
 
 no_rows : (channels : ℕ) → All (IsRow channels) []
@@ -58,7 +54,7 @@ no_rows channels k d h = absurd (omega arith)
 each_row : (channels : ℕ) (rows : List MatrixRow) → are_rows_there channels rows ≡ true → All (IsRow channels) rows
 each_row channels [] e = no_rows channels
 each_row channels (row ∷ rows) e =
-    let h = both (is_row channels row) (are_rows_there channels rows) e in
+    let h = and_parts (is_row channels row) (are_rows_there channels rows) e in
     All-cons (IsRow channels) row rows (a_row channels row h.0) (each_row channels rows h.1)
 
 -- ---- steps
@@ -117,5 +113,6 @@ are_rows Fold depth channels k m n =
 are_rows Bypass depth channels k m n = bypass_rows_fit k (omega (arith, m.shape.0))
 are_rows Side depth channels k m n = side_rows k (24 - depth) (omega (arith, m.depth_least)) (omega (arith, m.shape))
 
-pub rows_at : (mix : Mix) (depth channels k : ℕ) (rows : List MatrixRow) (steps : List ℕ) (count : ℕ) → rows ≡ rows_of mix k channels → steps ≡ steps_of mix (24 - depth) k → count ≡ channels_of k → AreMixed mix depth channels → channels_of k ≤ channels → AreRows rows steps count
+pub rows_at : (mix : Mix) (depth channels k : ℕ) (rows : List MatrixRow) (steps : List ℕ) (count : ℕ) → rows ≡ rows_of mix k channels → steps ≡ steps_of mix (24 - depth) k → count ≡ channels_of k →
+    AreMixed mix depth channels → channels_of k ≤ channels → AreRows rows steps count
 rows_at mix depth channels k rows steps count e f g m n = rw (e, f, g) (are_rows mix depth channels k m n)

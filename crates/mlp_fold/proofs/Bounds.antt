@@ -10,7 +10,8 @@ use Rattle.mlp_arith.proofs.Residues.{clear_le, lt_clear}
 use Rattle.mlp_fold.specs.declared.profile.Mix.{Mix}
 use Rattle.mlp_fold.specs.declared.profile.Mix.TheVariants.{Split, Fold, Bypass, Side}
 use Rattle.mlp_fold.specs.Profile.{AreMixed}
-use Rattle.mlp_fold.specs.Mix.{at, Is26, IsSample, AreSamples, IsCoded, coded_frame, place, shown, lowered, front6, front8, coded_fold6, coded_fold8, coded_bypass, coded_side, coded_of}
+use Rattle.mlp_arith.specs.Ranges.{Is26}
+use Rattle.mlp_fold.specs.Mix.{at, IsSample, AreSamples, IsCoded, coded_frame, place, shown, lowered, front6, front8, coded_fold6, coded_fold8, coded_bypass, coded_side, coded_of}
 use Rattle.mlp_fold.proofs.Samples.{eight}
 use Rattle.mlp_fold.proofs.Mixes.{lowered_bounds}
 
@@ -49,7 +50,9 @@ place26 : (q channels c : ℕ) (x : List ℤ) → AreSamples q channels x → Is
 place26 q channels c x h = either26 (nat_lt c channels) (at x c) (λ e. sample26 q (at x c) (h c (ltb-true c channels e)))
 
 shown26 : (q channels : ℕ) (x : List ℤ) → AreSamples q channels x → (c : ℕ) → Is26 (at (shown channels x) c)
-shown26 q channels x h = eight Is26 zero26 (place channels x 0) (place channels x 1) (place channels x 2) (place channels x 3) (place channels x 4) (place channels x 5) (place channels x 6) (place channels x 7) (place26 q channels 0 x h) (place26 q channels 1 x h) (place26 q channels 2 x h) (place26 q channels 3 x h) (place26 q channels 4 x h) (place26 q channels 5 x h) (place26 q channels 6 x h) (place26 q channels 7 x h)
+shown26 q channels x h = eight Is26 zero26 (place channels x 0) (place channels x 1) (place channels x 2) (place channels x 3) (place channels x 4) (place channels x 5) (place channels x 6)
+    (place channels x 7) (place26 q channels 0 x h) (place26 q channels 1 x h) (place26 q channels 2 x h) (place26 q channels 3 x h) (place26 q channels 4 x h) (place26 q channels 5 x h)
+    (place26 q channels 6 x h) (place26 q channels 7 x h)
 
 pub fold6-26 : (q : ℕ) (x : List ℤ) → q ≤ 8 → AreSamples q 6 x → (c : ℕ) → Is26 (at (coded_fold6 q x) c)
 fold6-26 q x l h =
@@ -88,7 +91,8 @@ fold26 q channels x l shape h c =
 bypass26 : (q : ℕ) (x : List ℤ) → AreSamples q 6 x → (c : ℕ) → Is26 (at (coded_bypass x) c)
 bypass26 q x h =
     eight Is26 zero26 (at x 0) (at x 1) (clear 1 (at x 2)) (clear 1 (at x 3)) (clear 1 (at x 4)) (clear 1 (at x 5)) (pos 0) (pos 0)
-    (sample26 q (at x 0) (h 0 (omega arith))) (sample26 q (at x 1) (h 1 (omega arith))) (cleared26 q (at x 2) (h 2 (omega arith))) (cleared26 q (at x 3) (h 3 (omega arith))) (cleared26 q (at x 4) (h 4 (omega arith))) (cleared26 q (at x 5) (h 5 (omega arith))) zero26 zero26
+    (sample26 q (at x 0) (h 0 (omega arith))) (sample26 q (at x 1) (h 1 (omega arith))) (cleared26 q (at x 2) (h 2 (omega arith))) (cleared26 q (at x 3) (h 3 (omega arith)))
+    (cleared26 q (at x 4) (h 4 (omega arith))) (cleared26 q (at x 5) (h 5 (omega arith))) zero26 zero26
 
 side26 : (q : ℕ) (x : List ℤ) → AreSamples q 2 x → (c : ℕ) → Is26 (at (coded_side x) c)
 side26 q x h =

@@ -1,5 +1,44 @@
 -- Rows make presentations of coded channels.
-use Rattle.std.proofs.Common.{◌≡◌, ◌≢◌, ℕ, zero, suc, ◌+◌, ◌-◌, ◌*◌, ◌<◌, ◌≤◌, List, [], ◌∷◌, ◌++◌, take, ℤ, pos, negsuc, neg_ℤ, ◌+ℤ◌, ◌-ℤ◌, ◌*ℤ◌, ◌≤ℤ◌, ◌<ℤ◌, Bool, true, false, cond, FitsSigned, w32, arith, refl, sym, ◌∙◌, ap, subst, inl, inr}
+use Rattle.std.proofs.Common.{
+  ◌≡◌,
+  ◌≢◌,
+  ℕ,
+  zero,
+  suc,
+  ◌+◌,
+  ◌-◌,
+  ◌*◌,
+  ◌<◌,
+  ◌≤◌,
+  List,
+  [],
+  ◌∷◌,
+  ◌++◌,
+  take,
+  ℤ,
+  pos,
+  negsuc,
+  neg_ℤ,
+  ◌+ℤ◌,
+  ◌-ℤ◌,
+  ◌*ℤ◌,
+  ◌≤ℤ◌,
+  ◌<ℤ◌,
+  Bool,
+  true,
+  false,
+  cond,
+  FitsSigned,
+  w32,
+  arith,
+  refl,
+  sym,
+  ◌∙◌,
+  ap,
+  subst,
+  inl,
+  inr,
+}
 use Rattle.std.proofs.lemmas.Int.{ints, int_wrap_fits}
 use Rattle.mlp_arith.specs.Words.{floor_by, clear, wrap}
 use Rattle.mlp_arith.proofs.Floors.{floor_le, lt_floor, floor_only}
@@ -106,7 +145,8 @@ stereo_kept q v s d l f a b e =
 
 halved_kept : (q : ℕ) (z d : ℤ) → q ≤ 8 → neg_ℤ (pos 33554432) ≤ℤ z → z <ℤ pos 33554432 → d ≡ pos 8192 *ℤ z → wrap (clear q (floor_by 14 d) +ℤ pos 0) ≡ halved q z
 halved_kept q z d l a b e =
-    let f : floor_by 14 d ≡ floor_by 1 z = floor_only d (floor_by 1 z) 16384 (omega arith) (omega (arith, ints, e, floor_le z 2 (omega arith), lt_floor z 2 (omega arith))) (omega (arith, ints, e, floor_le z 2 (omega arith), lt_floor z 2 (omega arith))) in
+    let f : floor_by 14 d ≡ floor_by 1 z = floor_only d (floor_by 1 z) 16384 (omega arith) (omega (arith, ints, e, floor_le z 2 (omega arith), lt_floor z 2 (omega arith)))
+    (omega (arith, ints, e, floor_le z 2 (omega arith), lt_floor z 2 (omega arith))) in
     kept (halved q z) (clear q (floor_by 14 d)) (halved_fits q z l a b) (ap (clear q) f)
 
 -- ---- Fold
@@ -122,7 +162,8 @@ fold6_top q x a b more h =
     let s0 : ℤ = negsuc 11584 *ℤ at x 2 +ℤ negsuc 11584 *ℤ at x 4 in
     let s1 : ℤ = negsuc 11584 *ℤ at x 2 +ℤ negsuc 11584 *ℤ at x 5 in
     let e0 = raised_by q (at x 0) s0 (dot (weights (row 0 14 false (left (negsuc 11584)))) (z0 ∷ z1 ∷ at x 2 ∷ at x 3 ∷ at x 4 ∷ at x 5 ∷ a ∷ b ∷ more)) (h 0 (omega arith)) (dot_left6 z0 z1 (at x 2) (at x 3) (at x 4) (at x 5) a b more) in
-    let e1 = raised_by q (at x 1) s1 (dot (weights (row 1 14 false (right (negsuc 11584)))) (at x 0 ∷ z1 ∷ at x 2 ∷ at x 3 ∷ at x 4 ∷ at x 5 ∷ a ∷ b ∷ more)) (h 1 (omega arith)) (dot_right6 (at x 0) z1 (at x 2) (at x 3) (at x 4) (at x 5) a b more) in
+    let e1 = raised_by q (at x 1) s1 (dot (weights (row 1 14 false (right (negsuc 11584)))) (at x 0 ∷ z1 ∷ at x 2 ∷ at x 3 ∷ at x 4 ∷ at x 5 ∷ a ∷ b ∷ more)) (h 1 (omega arith))
+    (dot_right6 (at x 0) z1 (at x 2) (at x 3) (at x 4) (at x 5) a b more) in
     ap (λ (v : ℤ). v ∷ wrap (clear q (floor_by 14 (dot (weights (row 1 14 false (right (negsuc 11584)))) (v ∷ z1 ∷ at x 2 ∷ at x 3 ∷ at x 4 ∷ at x 5 ∷ a ∷ b ∷ more))) +ℤ pos 0) ∷ at x 2 ∷ at x 3 ∷ at x 4 ∷ at x 5 ∷ a ∷ b ∷ more) e0
     ∙ ap (λ (v : ℤ). at x 0 ∷ v ∷ at x 2 ∷ at x 3 ∷ at x 4 ∷ at x 5 ∷ a ∷ b ∷ more) e1
 
@@ -151,10 +192,22 @@ fold8_middle q x a b more l h =
     let f3 : IsSample q (at x 7) = h 7 (omega arith) in
     let e0 = raised_by q (at x 0) s0 (dot (weights (row 0 14 false (left (negsuc 5792)))) (z0 ∷ z1 ∷ at x 2 ∷ at x 3 ∷ z4 ∷ z5 ∷ a ∷ b ∷ more)) (h 0 (omega arith)) (dot_left8 z0 z1 (at x 2) (at x 3) z4 z5 a b more) in
     let e1 = raised_by q (at x 1) s1 (dot (weights (row 1 14 false (right (negsuc 5792)))) (at x 0 ∷ z1 ∷ at x 2 ∷ at x 3 ∷ z4 ∷ z5 ∷ a ∷ b ∷ more)) (h 1 (omega arith)) (dot_right8 (at x 0) z1 (at x 2) (at x 3) z4 z5 a b more) in
-    let e4 = halved_kept q z4 (dot (weights (row 4 14 false (on ((4, pos 8192) ∷ [])))) (at x 0 ∷ at x 1 ∷ at x 2 ∷ at x 3 ∷ z4 ∷ z5 ∷ a ∷ b ∷ more)) l (omega (arith, ints, f0.low, f1.low)) (omega (arith, ints, f0.high, f1.high)) (dot_half4 (at x 0) (at x 1) (at x 2) (at x 3) z4 z5 a b more) in
-    let e5 = halved_kept q z5 (dot (weights (row 5 14 false (on ((5, pos 8192) ∷ [])))) (at x 0 ∷ at x 1 ∷ at x 2 ∷ at x 3 ∷ halved q z4 ∷ z5 ∷ a ∷ b ∷ more)) l (omega (arith, ints, f2.low, f3.low)) (omega (arith, ints, f2.high, f3.high)) (dot_half5 (at x 0) (at x 1) (at x 2) (at x 3) (halved q z4) z5 a b more) in
-    ap (λ (v : ℤ). v ∷ wrap (clear q (floor_by 14 (dot (weights (row 1 14 false (right (negsuc 5792)))) (v ∷ z1 ∷ at x 2 ∷ at x 3 ∷ z4 ∷ z5 ∷ a ∷ b ∷ more))) +ℤ pos 0) ∷ at x 2 ∷ at x 3 ∷ wrap (clear q (floor_by 14 (dot (weights (row 4 14 false (on ((4, pos 8192) ∷ [])))) (v ∷ wrap (clear q (floor_by 14 (dot (weights (row 1 14 false (right (negsuc 5792)))) (v ∷ z1 ∷ at x 2 ∷ at x 3 ∷ z4 ∷ z5 ∷ a ∷ b ∷ more))) +ℤ pos 0) ∷ at x 2 ∷ at x 3 ∷ z4 ∷ z5 ∷ a ∷ b ∷ more))) +ℤ pos 0) ∷ wrap (clear q (floor_by 14 (dot (weights (row 5 14 false (on ((5, pos 8192) ∷ [])))) (v ∷ wrap (clear q (floor_by 14 (dot (weights (row 1 14 false (right (negsuc 5792)))) (v ∷ z1 ∷ at x 2 ∷ at x 3 ∷ z4 ∷ z5 ∷ a ∷ b ∷ more))) +ℤ pos 0) ∷ at x 2 ∷ at x 3 ∷ wrap (clear q (floor_by 14 (dot (weights (row 4 14 false (on ((4, pos 8192) ∷ [])))) (v ∷ wrap (clear q (floor_by 14 (dot (weights (row 1 14 false (right (negsuc 5792)))) (v ∷ z1 ∷ at x 2 ∷ at x 3 ∷ z4 ∷ z5 ∷ a ∷ b ∷ more))) +ℤ pos 0) ∷ at x 2 ∷ at x 3 ∷ z4 ∷ z5 ∷ a ∷ b ∷ more))) +ℤ pos 0) ∷ z5 ∷ a ∷ b ∷ more))) +ℤ pos 0) ∷ a ∷ b ∷ more) e0
-    ∙ ap (λ (v : ℤ). at x 0 ∷ v ∷ at x 2 ∷ at x 3 ∷ wrap (clear q (floor_by 14 (dot (weights (row 4 14 false (on ((4, pos 8192) ∷ [])))) (at x 0 ∷ v ∷ at x 2 ∷ at x 3 ∷ z4 ∷ z5 ∷ a ∷ b ∷ more))) +ℤ pos 0) ∷ wrap (clear q (floor_by 14 (dot (weights (row 5 14 false (on ((5, pos 8192) ∷ [])))) (at x 0 ∷ v ∷ at x 2 ∷ at x 3 ∷ wrap (clear q (floor_by 14 (dot (weights (row 4 14 false (on ((4, pos 8192) ∷ [])))) (at x 0 ∷ v ∷ at x 2 ∷ at x 3 ∷ z4 ∷ z5 ∷ a ∷ b ∷ more))) +ℤ pos 0) ∷ z5 ∷ a ∷ b ∷ more))) +ℤ pos 0) ∷ a ∷ b ∷ more) e1
+    let e4 = halved_kept q z4 (dot (weights (row 4 14 false (on ((4, pos 8192) ∷ [])))) (at x 0 ∷ at x 1 ∷ at x 2 ∷ at x 3 ∷ z4 ∷ z5 ∷ a ∷ b ∷ more)) l (omega (arith, ints, f0.low, f1.low))
+    (omega (arith, ints, f0.high, f1.high)) (dot_half4 (at x 0) (at x 1) (at x 2) (at x 3) z4 z5 a b more) in
+    let e5 = halved_kept q z5 (dot (weights (row 5 14 false (on ((5, pos 8192) ∷ [])))) (at x 0 ∷ at x 1 ∷ at x 2 ∷ at x 3 ∷ halved q z4 ∷ z5 ∷ a ∷ b ∷ more)) l (omega (arith, ints, f2.low, f3.low))
+    (omega (arith, ints, f2.high, f3.high)) (dot_half5 (at x 0) (at x 1) (at x 2) (at x 3) (halved q z4) z5 a b more) in
+    ap (λ (v : ℤ). v ∷ wrap (clear q (floor_by 14 (dot (weights (row 1 14 false (right (negsuc 5792)))) (v ∷ z1 ∷ at x 2 ∷ at x 3 ∷ z4 ∷ z5 ∷ a ∷ b ∷ more))) +ℤ pos 0) ∷ at x 2 ∷ at x 3 ∷ wrap
+    (clear q (floor_by 14 (dot (weights (row 4 14 false (on ((4, pos 8192) ∷ []))))
+    (v ∷ wrap (clear q (floor_by 14 (dot (weights (row 1 14 false (right (negsuc 5792)))) (v ∷ z1 ∷ at x 2 ∷ at x 3 ∷ z4 ∷ z5 ∷ a ∷ b ∷ more))) +ℤ pos 0) ∷ at x 2 ∷ at x 3 ∷ z4 ∷ z5 ∷ a ∷ b ∷
+    more))) +ℤ pos 0) ∷ wrap (clear q (floor_by 14 (dot (weights (row 5 14 false (on ((5, pos 8192) ∷ []))))
+    (v ∷ wrap (clear q (floor_by 14 (dot (weights (row 1 14 false (right (negsuc 5792)))) (v ∷ z1 ∷ at x 2 ∷ at x 3 ∷ z4 ∷ z5 ∷ a ∷ b ∷ more))) +ℤ pos 0) ∷ at x 2 ∷ at x 3 ∷ wrap
+    (clear q (floor_by 14 (dot (weights (row 4 14 false (on ((4, pos 8192) ∷ []))))
+    (v ∷ wrap (clear q (floor_by 14 (dot (weights (row 1 14 false (right (negsuc 5792)))) (v ∷ z1 ∷ at x 2 ∷ at x 3 ∷ z4 ∷ z5 ∷ a ∷ b ∷ more))) +ℤ pos 0) ∷ at x 2 ∷ at x 3 ∷ z4 ∷ z5 ∷ a ∷ b ∷
+    more))) +ℤ pos 0) ∷ z5 ∷ a ∷ b ∷ more))) +ℤ pos 0) ∷ a ∷ b ∷ more) e0
+    ∙ ap (λ (v : ℤ). at x 0 ∷ v ∷ at x 2 ∷ at x 3 ∷ wrap (clear q (floor_by 14 (dot (weights (row 4 14 false (on ((4, pos 8192) ∷ [])))) (at x 0 ∷ v ∷ at x 2 ∷ at x 3 ∷ z4 ∷ z5 ∷ a ∷ b ∷ more))) +ℤ
+    pos 0) ∷ wrap (clear q (floor_by 14 (dot (weights (row 5 14 false (on ((5, pos 8192) ∷ []))))
+    (at x 0 ∷ v ∷ at x 2 ∷ at x 3 ∷ wrap (clear q (floor_by 14 (dot (weights (row 4 14 false (on ((4, pos 8192) ∷ [])))) (at x 0 ∷ v ∷ at x 2 ∷ at x 3 ∷ z4 ∷ z5 ∷ a ∷ b ∷ more))) +ℤ pos 0) ∷ z5 ∷
+    a ∷ b ∷ more))) +ℤ pos 0) ∷ a ∷ b ∷ more) e1
     ∙ ap (λ (v : ℤ). at x 0 ∷ at x 1 ∷ at x 2 ∷ at x 3 ∷ v ∷ wrap (clear q (floor_by 14 (dot (weights (row 5 14 false (on ((5, pos 8192) ∷ [])))) (at x 0 ∷ at x 1 ∷ at x 2 ∷ at x 3 ∷ v ∷ z5 ∷ a ∷ b ∷ more))) +ℤ pos 0) ∷ a ∷ b ∷ more) e4
     ∙ ap (λ (v : ℤ). at x 0 ∷ at x 1 ∷ at x 2 ∷ at x 3 ∷ halved q (at x 4 +ℤ at x 6) ∷ v ∷ a ∷ b ∷ more) e5
 
@@ -171,13 +224,32 @@ fold8_top q x a b more l h =
     let f1 : IsSample q (at x 6) = h 6 (omega arith) in
     let f2 : IsSample q (at x 5) = h 5 (omega arith) in
     let f3 : IsSample q (at x 7) = h 7 (omega arith) in
-    let e0 = raised_by q (at x 0) s0 (dot (weights (row 0 14 false (left (negsuc 5792)))) (z0 ∷ z1 ∷ at x 2 ∷ at x 3 ∷ z4 ∷ z5 ∷ at x 6 ∷ at x 7 ∷ a ∷ b ∷ more)) (h 0 (omega arith)) (dot_left8 z0 z1 (at x 2) (at x 3) z4 z5 (at x 6) (at x 7) (a ∷ b ∷ more)) in
-    let e1 = raised_by q (at x 1) s1 (dot (weights (row 1 14 false (right (negsuc 5792)))) (at x 0 ∷ z1 ∷ at x 2 ∷ at x 3 ∷ z4 ∷ z5 ∷ at x 6 ∷ at x 7 ∷ a ∷ b ∷ more)) (h 1 (omega arith)) (dot_right8 (at x 0) z1 (at x 2) (at x 3) z4 z5 (at x 6) (at x 7) (a ∷ b ∷ more)) in
-    let e4 = exact q (at x 4) (dot (weights (row 4 14 false (on ((4, pos 16384) ∷ (6, negsuc 16383) ∷ [])))) (at x 0 ∷ at x 1 ∷ at x 2 ∷ at x 3 ∷ z4 ∷ z5 ∷ at x 6 ∷ at x 7 ∷ a ∷ b ∷ more)) f0 (dot_back4 (at x 0) (at x 1) (at x 2) (at x 3) z4 z5 (at x 6) (at x 7) (a ∷ b ∷ more) ∙ omega (arith, ints)) in
-    let e5 = exact q (at x 5) (dot (weights (row 5 14 false (on ((5, pos 16384) ∷ (7, negsuc 16383) ∷ [])))) (at x 0 ∷ at x 1 ∷ at x 2 ∷ at x 3 ∷ at x 4 ∷ z5 ∷ at x 6 ∷ at x 7 ∷ a ∷ b ∷ more)) f2 (dot_back5 (at x 0) (at x 1) (at x 2) (at x 3) (at x 4) z5 (at x 6) (at x 7) (a ∷ b ∷ more) ∙ omega (arith, ints)) in
-    ap (λ (v : ℤ). v ∷ wrap (clear q (floor_by 14 (dot (weights (row 1 14 false (right (negsuc 5792)))) (v ∷ z1 ∷ at x 2 ∷ at x 3 ∷ z4 ∷ z5 ∷ at x 6 ∷ at x 7 ∷ a ∷ b ∷ more))) +ℤ pos 0) ∷ at x 2 ∷ at x 3 ∷ wrap (clear q (floor_by 14 (dot (weights (row 4 14 false (on ((4, pos 16384) ∷ (6, negsuc 16383) ∷ [])))) (v ∷ wrap (clear q (floor_by 14 (dot (weights (row 1 14 false (right (negsuc 5792)))) (v ∷ z1 ∷ at x 2 ∷ at x 3 ∷ z4 ∷ z5 ∷ at x 6 ∷ at x 7 ∷ a ∷ b ∷ more))) +ℤ pos 0) ∷ at x 2 ∷ at x 3 ∷ z4 ∷ z5 ∷ at x 6 ∷ at x 7 ∷ a ∷ b ∷ more))) +ℤ pos 0) ∷ wrap (clear q (floor_by 14 (dot (weights (row 5 14 false (on ((5, pos 16384) ∷ (7, negsuc 16383) ∷ [])))) (v ∷ wrap (clear q (floor_by 14 (dot (weights (row 1 14 false (right (negsuc 5792)))) (v ∷ z1 ∷ at x 2 ∷ at x 3 ∷ z4 ∷ z5 ∷ at x 6 ∷ at x 7 ∷ a ∷ b ∷ more))) +ℤ pos 0) ∷ at x 2 ∷ at x 3 ∷ wrap (clear q (floor_by 14 (dot (weights (row 4 14 false (on ((4, pos 16384) ∷ (6, negsuc 16383) ∷ [])))) (v ∷ wrap (clear q (floor_by 14 (dot (weights (row 1 14 false (right (negsuc 5792)))) (v ∷ z1 ∷ at x 2 ∷ at x 3 ∷ z4 ∷ z5 ∷ at x 6 ∷ at x 7 ∷ a ∷ b ∷ more))) +ℤ pos 0) ∷ at x 2 ∷ at x 3 ∷ z4 ∷ z5 ∷ at x 6 ∷ at x 7 ∷ a ∷ b ∷ more))) +ℤ pos 0) ∷ z5 ∷ at x 6 ∷ at x 7 ∷ a ∷ b ∷ more))) +ℤ pos 0) ∷ at x 6 ∷ at x 7 ∷ a ∷ b ∷ more) e0
-    ∙ ap (λ (v : ℤ). at x 0 ∷ v ∷ at x 2 ∷ at x 3 ∷ wrap (clear q (floor_by 14 (dot (weights (row 4 14 false (on ((4, pos 16384) ∷ (6, negsuc 16383) ∷ [])))) (at x 0 ∷ v ∷ at x 2 ∷ at x 3 ∷ z4 ∷ z5 ∷ at x 6 ∷ at x 7 ∷ a ∷ b ∷ more))) +ℤ pos 0) ∷ wrap (clear q (floor_by 14 (dot (weights (row 5 14 false (on ((5, pos 16384) ∷ (7, negsuc 16383) ∷ [])))) (at x 0 ∷ v ∷ at x 2 ∷ at x 3 ∷ wrap (clear q (floor_by 14 (dot (weights (row 4 14 false (on ((4, pos 16384) ∷ (6, negsuc 16383) ∷ [])))) (at x 0 ∷ v ∷ at x 2 ∷ at x 3 ∷ z4 ∷ z5 ∷ at x 6 ∷ at x 7 ∷ a ∷ b ∷ more))) +ℤ pos 0) ∷ z5 ∷ at x 6 ∷ at x 7 ∷ a ∷ b ∷ more))) +ℤ pos 0) ∷ at x 6 ∷ at x 7 ∷ a ∷ b ∷ more) e1
-    ∙ ap (λ (v : ℤ). at x 0 ∷ at x 1 ∷ at x 2 ∷ at x 3 ∷ v ∷ wrap (clear q (floor_by 14 (dot (weights (row 5 14 false (on ((5, pos 16384) ∷ (7, negsuc 16383) ∷ [])))) (at x 0 ∷ at x 1 ∷ at x 2 ∷ at x 3 ∷ v ∷ z5 ∷ at x 6 ∷ at x 7 ∷ a ∷ b ∷ more))) +ℤ pos 0) ∷ at x 6 ∷ at x 7 ∷ a ∷ b ∷ more) e4
+    let e0 = raised_by q (at x 0) s0 (dot (weights (row 0 14 false (left (negsuc 5792)))) (z0 ∷ z1 ∷ at x 2 ∷ at x 3 ∷ z4 ∷ z5 ∷ at x 6 ∷ at x 7 ∷ a ∷ b ∷ more)) (h 0 (omega arith))
+    (dot_left8 z0 z1 (at x 2) (at x 3) z4 z5 (at x 6) (at x 7) (a ∷ b ∷ more)) in
+    let e1 = raised_by q (at x 1) s1 (dot (weights (row 1 14 false (right (negsuc 5792)))) (at x 0 ∷ z1 ∷ at x 2 ∷ at x 3 ∷ z4 ∷ z5 ∷ at x 6 ∷ at x 7 ∷ a ∷ b ∷ more)) (h 1 (omega arith))
+    (dot_right8 (at x 0) z1 (at x 2) (at x 3) z4 z5 (at x 6) (at x 7) (a ∷ b ∷ more)) in
+    let e4 = exact q (at x 4) (dot (weights (row 4 14 false (on ((4, pos 16384) ∷ (6, negsuc 16383) ∷ [])))) (at x 0 ∷ at x 1 ∷ at x 2 ∷ at x 3 ∷ z4 ∷ z5 ∷ at x 6 ∷ at x 7 ∷ a ∷ b ∷ more)) f0
+    (dot_back4 (at x 0) (at x 1) (at x 2) (at x 3) z4 z5 (at x 6) (at x 7) (a ∷ b ∷ more) ∙ omega (arith, ints)) in
+    let e5 = exact q (at x 5) (dot (weights (row 5 14 false (on ((5, pos 16384) ∷ (7, negsuc 16383) ∷ [])))) (at x 0 ∷ at x 1 ∷ at x 2 ∷ at x 3 ∷ at x 4 ∷ z5 ∷ at x 6 ∷ at x 7 ∷ a ∷ b ∷ more)) f2
+    (dot_back5 (at x 0) (at x 1) (at x 2) (at x 3) (at x 4) z5 (at x 6) (at x 7) (a ∷ b ∷ more) ∙ omega (arith, ints)) in
+    ap (λ (v : ℤ). v ∷ wrap (clear q (floor_by 14 (dot (weights (row 1 14 false (right (negsuc 5792)))) (v ∷ z1 ∷ at x 2 ∷ at x 3 ∷ z4 ∷ z5 ∷ at x 6 ∷ at x 7 ∷ a ∷ b ∷ more))) +ℤ pos 0) ∷ at x 2 ∷ at
+    x 3 ∷ wrap (clear q (floor_by 14 (dot (weights (row 4 14 false (on ((4, pos 16384) ∷ (6, negsuc 16383) ∷ []))))
+    (v ∷ wrap (clear q (floor_by 14 (dot (weights (row 1 14 false (right (negsuc 5792)))) (v ∷ z1 ∷ at x 2 ∷ at x 3 ∷ z4 ∷ z5 ∷ at x 6 ∷ at x 7 ∷ a ∷ b ∷ more))) +ℤ pos 0) ∷ at x 2 ∷ at x 3 ∷ z4
+    ∷ z5 ∷ at x 6 ∷ at x 7 ∷ a ∷ b ∷ more))) +ℤ pos 0) ∷ wrap
+    (clear q (floor_by 14 (dot (weights (row 5 14 false (on ((5, pos 16384) ∷ (7, negsuc 16383) ∷ []))))
+    (v ∷ wrap (clear q (floor_by 14 (dot (weights (row 1 14 false (right (negsuc 5792)))) (v ∷ z1 ∷ at x 2 ∷ at x 3 ∷ z4 ∷ z5 ∷ at x 6 ∷ at x 7 ∷ a ∷ b ∷ more))) +ℤ pos 0) ∷ at x 2 ∷ at x 3 ∷
+    wrap (clear q (floor_by 14 (dot (weights (row 4 14 false (on ((4, pos 16384) ∷ (6, negsuc 16383) ∷ []))))
+    (v ∷ wrap (clear q (floor_by 14 (dot (weights (row 1 14 false (right (negsuc 5792)))) (v ∷ z1 ∷ at x 2 ∷ at x 3 ∷ z4 ∷ z5 ∷ at x 6 ∷ at x 7 ∷ a ∷ b ∷ more))) +ℤ pos 0) ∷ at x 2 ∷ at x 3 ∷ z4
+    ∷ z5 ∷ at x 6 ∷ at x 7 ∷ a ∷ b ∷ more))) +ℤ pos 0) ∷ z5 ∷ at x 6 ∷ at x 7 ∷ a ∷ b ∷ more))) +ℤ pos 0) ∷ at x 6 ∷ at x 7 ∷ a ∷ b ∷ more) e0
+    ∙ ap (λ (v : ℤ). at x 0 ∷ v ∷ at x 2 ∷ at x 3 ∷ wrap (clear q
+    (floor_by 14 (dot (weights (row 4 14 false (on ((4, pos 16384) ∷ (6, negsuc 16383) ∷ [])))) (at x 0 ∷ v ∷ at x 2 ∷ at x 3 ∷ z4 ∷ z5 ∷ at x 6 ∷ at x 7 ∷ a ∷ b ∷ more))) +ℤ pos 0) ∷ wrap
+    (clear q (floor_by 14 (dot (weights (row 5 14 false (on ((5, pos 16384) ∷ (7, negsuc 16383) ∷ []))))
+    (at x 0 ∷ v ∷ at x 2 ∷ at x 3 ∷ wrap (clear q (floor_by 14
+    (dot (weights (row 4 14 false (on ((4, pos 16384) ∷ (6, negsuc 16383) ∷ [])))) (at x 0 ∷ v ∷ at x 2 ∷ at x 3 ∷ z4 ∷ z5 ∷ at x 6 ∷ at x 7 ∷ a ∷ b ∷ more))) +ℤ pos 0) ∷ z5 ∷ at x 6 ∷ at x 7 ∷ a
+    ∷ b ∷ more))) +ℤ pos 0) ∷ at x 6 ∷ at x 7 ∷ a ∷ b ∷ more) e1
+    ∙ ap (λ (v : ℤ). at x 0 ∷ at x 1 ∷ at x 2 ∷ at x 3 ∷ v ∷ wrap
+    (clear q (floor_by 14 (dot (weights (row 5 14 false (on ((5, pos 16384) ∷ (7, negsuc 16383) ∷ [])))) (at x 0 ∷ at x 1 ∷ at x 2 ∷ at x 3 ∷ v ∷ z5 ∷ at x 6 ∷ at x 7 ∷ a ∷ b ∷ more))) +ℤ pos 0)
+    ∷ at x 6 ∷ at x 7 ∷ a ∷ b ∷ more) e4
     ∙ ap (λ (v : ℤ). at x 0 ∷ at x 1 ∷ at x 2 ∷ at x 3 ∷ at x 4 ∷ v ∷ at x 6 ∷ at x 7 ∷ a ∷ b ∷ more) e5
 
 -- ---- Bypass
@@ -275,13 +347,39 @@ bypass_top : (q : ℕ) (x : List ℤ) (a b : ℤ) (more : List ℤ) → ((c : �
     applied (bypass_rows 1) (bypass_steps 1) (bypass_of Bypass x) (take 6 (coded_bypass x) ++ a ∷ b ∷ more) ≡ at x 0 ∷ at x 1 ∷ at x 2 ∷ at x 3 ∷ at x 4 ∷ at x 5 ∷ a ∷ b ∷ more
 bypass_top q x a b more h =
     let n : ℕ = bypass_of Bypass x in
-    let e2 = bit_put (at x 2) (dot (weights (row 2 0 true (on ((2, pos 1) ∷ [])))) (at x 0 ∷ at x 1 ∷ clear 1 (at x 2) ∷ clear 1 (at x 3) ∷ clear 1 (at x 4) ∷ clear 1 (at x 5) ∷ a ∷ b ∷ more)) (has_bit n 0) (sample_fits q (at x 2) (h 2 (omega arith))) (dot_one2 (at x 0) (at x 1) (clear 1 (at x 2)) (clear 1 (at x 3)) (clear 1 (at x 4)) (clear 1 (at x 5)) a b more) (bit0 (is_even (at x 2)) (is_even (at x 3)) (is_even (at x 4)) (is_even (at x 5))) in
-    let e3 = bit_put (at x 3) (dot (weights (row 3 0 true (on ((3, pos 1) ∷ [])))) (at x 0 ∷ at x 1 ∷ at x 2 ∷ clear 1 (at x 3) ∷ clear 1 (at x 4) ∷ clear 1 (at x 5) ∷ a ∷ b ∷ more)) (has_bit n 1) (sample_fits q (at x 3) (h 3 (omega arith))) (dot_one3 (at x 0) (at x 1) (at x 2) (clear 1 (at x 3)) (clear 1 (at x 4)) (clear 1 (at x 5)) a b more) (bit1 (is_even (at x 2)) (is_even (at x 3)) (is_even (at x 4)) (is_even (at x 5))) in
-    let e4 = bit_put (at x 4) (dot (weights (row 4 0 true (on ((4, pos 1) ∷ [])))) (at x 0 ∷ at x 1 ∷ at x 2 ∷ at x 3 ∷ clear 1 (at x 4) ∷ clear 1 (at x 5) ∷ a ∷ b ∷ more)) (has_bit n 2) (sample_fits q (at x 4) (h 4 (omega arith))) (dot_one4 (at x 0) (at x 1) (at x 2) (at x 3) (clear 1 (at x 4)) (clear 1 (at x 5)) a b more) (bit2 (is_even (at x 2)) (is_even (at x 3)) (is_even (at x 4)) (is_even (at x 5))) in
-    let e5 = bit_put (at x 5) (dot (weights (row 5 0 true (on ((5, pos 1) ∷ [])))) (at x 0 ∷ at x 1 ∷ at x 2 ∷ at x 3 ∷ at x 4 ∷ clear 1 (at x 5) ∷ a ∷ b ∷ more)) (has_bit n 3) (sample_fits q (at x 5) (h 5 (omega arith))) (dot_one5 (at x 0) (at x 1) (at x 2) (at x 3) (at x 4) (clear 1 (at x 5)) a b more) (bit3 (is_even (at x 2)) (is_even (at x 3)) (is_even (at x 4)) (is_even (at x 5))) in
-    ap (λ (v : ℤ). at x 0 ∷ at x 1 ∷ v ∷ wrap (clear 1 (floor_by 14 (dot (weights (row 3 0 true (on ((3, pos 1) ∷ [])))) (at x 0 ∷ at x 1 ∷ v ∷ clear 1 (at x 3) ∷ clear 1 (at x 4) ∷ clear 1 (at x 5) ∷ a ∷ b ∷ more))) +ℤ bit_of (has_bit n 1)) ∷ wrap (clear 1 (floor_by 14 (dot (weights (row 4 0 true (on ((4, pos 1) ∷ [])))) (at x 0 ∷ at x 1 ∷ v ∷ wrap (clear 1 (floor_by 14 (dot (weights (row 3 0 true (on ((3, pos 1) ∷ [])))) (at x 0 ∷ at x 1 ∷ v ∷ clear 1 (at x 3) ∷ clear 1 (at x 4) ∷ clear 1 (at x 5) ∷ a ∷ b ∷ more))) +ℤ bit_of (has_bit n 1)) ∷ clear 1 (at x 4) ∷ clear 1 (at x 5) ∷ a ∷ b ∷ more))) +ℤ bit_of (has_bit n 2)) ∷ wrap (clear 1 (floor_by 14 (dot (weights (row 5 0 true (on ((5, pos 1) ∷ [])))) (at x 0 ∷ at x 1 ∷ v ∷ wrap (clear 1 (floor_by 14 (dot (weights (row 3 0 true (on ((3, pos 1) ∷ [])))) (at x 0 ∷ at x 1 ∷ v ∷ clear 1 (at x 3) ∷ clear 1 (at x 4) ∷ clear 1 (at x 5) ∷ a ∷ b ∷ more))) +ℤ bit_of (has_bit n 1)) ∷ wrap (clear 1 (floor_by 14 (dot (weights (row 4 0 true (on ((4, pos 1) ∷ [])))) (at x 0 ∷ at x 1 ∷ v ∷ wrap (clear 1 (floor_by 14 (dot (weights (row 3 0 true (on ((3, pos 1) ∷ [])))) (at x 0 ∷ at x 1 ∷ v ∷ clear 1 (at x 3) ∷ clear 1 (at x 4) ∷ clear 1 (at x 5) ∷ a ∷ b ∷ more))) +ℤ bit_of (has_bit n 1)) ∷ clear 1 (at x 4) ∷ clear 1 (at x 5) ∷ a ∷ b ∷ more))) +ℤ bit_of (has_bit n 2)) ∷ clear 1 (at x 5) ∷ a ∷ b ∷ more))) +ℤ bit_of (has_bit n 3)) ∷ a ∷ b ∷ more) e2
-    ∙ ap (λ (v : ℤ). at x 0 ∷ at x 1 ∷ at x 2 ∷ v ∷ wrap (clear 1 (floor_by 14 (dot (weights (row 4 0 true (on ((4, pos 1) ∷ [])))) (at x 0 ∷ at x 1 ∷ at x 2 ∷ v ∷ clear 1 (at x 4) ∷ clear 1 (at x 5) ∷ a ∷ b ∷ more))) +ℤ bit_of (has_bit n 2)) ∷ wrap (clear 1 (floor_by 14 (dot (weights (row 5 0 true (on ((5, pos 1) ∷ [])))) (at x 0 ∷ at x 1 ∷ at x 2 ∷ v ∷ wrap (clear 1 (floor_by 14 (dot (weights (row 4 0 true (on ((4, pos 1) ∷ [])))) (at x 0 ∷ at x 1 ∷ at x 2 ∷ v ∷ clear 1 (at x 4) ∷ clear 1 (at x 5) ∷ a ∷ b ∷ more))) +ℤ bit_of (has_bit n 2)) ∷ clear 1 (at x 5) ∷ a ∷ b ∷ more))) +ℤ bit_of (has_bit n 3)) ∷ a ∷ b ∷ more) e3
-    ∙ ap (λ (v : ℤ). at x 0 ∷ at x 1 ∷ at x 2 ∷ at x 3 ∷ v ∷ wrap (clear 1 (floor_by 14 (dot (weights (row 5 0 true (on ((5, pos 1) ∷ [])))) (at x 0 ∷ at x 1 ∷ at x 2 ∷ at x 3 ∷ v ∷ clear 1 (at x 5) ∷ a ∷ b ∷ more))) +ℤ bit_of (has_bit n 3)) ∷ a ∷ b ∷ more) e4
+    let e2 = bit_put (at x 2) (dot (weights (row 2 0 true (on ((2, pos 1) ∷ [])))) (at x 0 ∷ at x 1 ∷ clear 1 (at x 2) ∷ clear 1 (at x 3) ∷ clear 1 (at x 4) ∷ clear 1 (at x 5) ∷ a ∷ b ∷ more))
+    (has_bit n 0) (sample_fits q (at x 2) (h 2 (omega arith))) (dot_one2 (at x 0) (at x 1) (clear 1 (at x 2)) (clear 1 (at x 3)) (clear 1 (at x 4)) (clear 1 (at x 5)) a b more)
+    (bit0 (is_even (at x 2)) (is_even (at x 3)) (is_even (at x 4)) (is_even (at x 5))) in
+    let e3 = bit_put (at x 3) (dot (weights (row 3 0 true (on ((3, pos 1) ∷ [])))) (at x 0 ∷ at x 1 ∷ at x 2 ∷ clear 1 (at x 3) ∷ clear 1 (at x 4) ∷ clear 1 (at x 5) ∷ a ∷ b ∷ more)) (has_bit n 1)
+    (sample_fits q (at x 3) (h 3 (omega arith))) (dot_one3 (at x 0) (at x 1) (at x 2) (clear 1 (at x 3)) (clear 1 (at x 4)) (clear 1 (at x 5)) a b more)
+    (bit1 (is_even (at x 2)) (is_even (at x 3)) (is_even (at x 4)) (is_even (at x 5))) in
+    let e4 = bit_put (at x 4) (dot (weights (row 4 0 true (on ((4, pos 1) ∷ [])))) (at x 0 ∷ at x 1 ∷ at x 2 ∷ at x 3 ∷ clear 1 (at x 4) ∷ clear 1 (at x 5) ∷ a ∷ b ∷ more)) (has_bit n 2)
+    (sample_fits q (at x 4) (h 4 (omega arith))) (dot_one4 (at x 0) (at x 1) (at x 2) (at x 3) (clear 1 (at x 4)) (clear 1 (at x 5)) a b more)
+    (bit2 (is_even (at x 2)) (is_even (at x 3)) (is_even (at x 4)) (is_even (at x 5))) in
+    let e5 = bit_put (at x 5) (dot (weights (row 5 0 true (on ((5, pos 1) ∷ [])))) (at x 0 ∷ at x 1 ∷ at x 2 ∷ at x 3 ∷ at x 4 ∷ clear 1 (at x 5) ∷ a ∷ b ∷ more)) (has_bit n 3)
+    (sample_fits q (at x 5) (h 5 (omega arith))) (dot_one5 (at x 0) (at x 1) (at x 2) (at x 3) (at x 4) (clear 1 (at x 5)) a b more)
+    (bit3 (is_even (at x 2)) (is_even (at x 3)) (is_even (at x 4)) (is_even (at x 5))) in
+    ap (λ (v : ℤ). at x 0 ∷ at x 1 ∷ v ∷ wrap (clear 1 (floor_by 14
+    (dot (weights (row 3 0 true (on ((3, pos 1) ∷ [])))) (at x 0 ∷ at x 1 ∷ v ∷ clear 1 (at x 3) ∷ clear 1 (at x 4) ∷ clear 1 (at x 5) ∷ a ∷ b ∷ more))) +ℤ bit_of (has_bit n 1)) ∷ wrap
+    (clear 1 (floor_by 14 (dot (weights (row 4 0 true (on ((4, pos 1) ∷ []))))
+    (at x 0 ∷ at x 1 ∷ v ∷ wrap (clear 1 (floor_by 14 (dot (weights (row 3 0 true (on ((3, pos 1) ∷ []))))
+    (at x 0 ∷ at x 1 ∷ v ∷ clear 1 (at x 3) ∷ clear 1 (at x 4) ∷ clear 1 (at x 5) ∷ a ∷ b ∷ more))) +ℤ bit_of (has_bit n 1)) ∷ clear 1 (at x 4) ∷ clear 1 (at x 5) ∷ a ∷ b ∷ more))) +ℤ bit_of
+    (has_bit n 2)) ∷ wrap (clear 1 (floor_by 14 (dot (weights (row 5 0 true (on ((5, pos 1) ∷ []))))
+    (at x 0 ∷ at x 1 ∷ v ∷ wrap (clear 1 (floor_by 14 (dot (weights (row 3 0 true (on ((3, pos 1) ∷ []))))
+    (at x 0 ∷ at x 1 ∷ v ∷ clear 1 (at x 3) ∷ clear 1 (at x 4) ∷ clear 1 (at x 5) ∷ a ∷ b ∷ more))) +ℤ bit_of (has_bit n 1)) ∷ wrap
+    (clear 1 (floor_by 14 (dot (weights (row 4 0 true (on ((4, pos 1) ∷ []))))
+    (at x 0 ∷ at x 1 ∷ v ∷ wrap (clear 1 (floor_by 14 (dot (weights (row 3 0 true (on ((3, pos 1) ∷ []))))
+    (at x 0 ∷ at x 1 ∷ v ∷ clear 1 (at x 3) ∷ clear 1 (at x 4) ∷ clear 1 (at x 5) ∷ a ∷ b ∷ more))) +ℤ bit_of (has_bit n 1)) ∷ clear 1 (at x 4) ∷ clear 1 (at x 5) ∷ a ∷ b ∷ more))) +ℤ bit_of
+    (has_bit n 2)) ∷ clear 1 (at x 5) ∷ a ∷ b ∷ more))) +ℤ bit_of (has_bit n 3)) ∷ a ∷ b ∷ more) e2
+    ∙ ap (λ (v : ℤ). at x 0 ∷ at x 1 ∷ at x 2 ∷ v ∷ wrap (clear 1
+    (floor_by 14 (dot (weights (row 4 0 true (on ((4, pos 1) ∷ [])))) (at x 0 ∷ at x 1 ∷ at x 2 ∷ v ∷ clear 1 (at x 4) ∷ clear 1 (at x 5) ∷ a ∷ b ∷ more))) +ℤ bit_of (has_bit n 2)) ∷ wrap
+    (clear 1 (floor_by 14 (dot (weights (row 5 0 true (on ((5, pos 1) ∷ []))))
+    (at x 0 ∷ at x 1 ∷ at x 2 ∷ v ∷ wrap (clear 1 (floor_by 14
+    (dot (weights (row 4 0 true (on ((4, pos 1) ∷ [])))) (at x 0 ∷ at x 1 ∷ at x 2 ∷ v ∷ clear 1 (at x 4) ∷ clear 1 (at x 5) ∷ a ∷ b ∷ more))) +ℤ bit_of (has_bit n 2)) ∷ clear 1 (at x 5) ∷ a ∷ b
+    ∷ more))) +ℤ bit_of (has_bit n 3)) ∷ a ∷ b ∷ more) e3
+    ∙ ap (λ (v : ℤ). at x 0 ∷ at x 1 ∷ at x 2 ∷ at x 3 ∷ v ∷ wrap
+    (clear 1 (floor_by 14 (dot (weights (row 5 0 true (on ((5, pos 1) ∷ [])))) (at x 0 ∷ at x 1 ∷ at x 2 ∷ at x 3 ∷ v ∷ clear 1 (at x 5) ∷ a ∷ b ∷ more))) +ℤ bit_of (has_bit n 3)) ∷ a ∷ b ∷ more)
+    e4
     ∙ ap (λ (v : ℤ). at x 0 ∷ at x 1 ∷ at x 2 ∷ at x 3 ∷ at x 4 ∷ v ∷ a ∷ b ∷ more) e5
 
 -- ---- Side
@@ -297,7 +395,16 @@ split_case q channels zero x a b more l = cc (place_in channels x 0 (omega arith
 split_case q channels (suc zero) x a b more l =
     cc (place_in channels x 0 (omega arith), place_in channels x 1 (omega arith), place_in channels x 2 (omega arith), place_in channels x 3 (omega arith), place_in channels x 4 (omega arith), place_in channels x 5 (omega arith))
 split_case q channels (suc (suc k)) x a b more l =
-    cc (place_in channels x 0 (omega arith), place_in channels x 1 (omega arith), place_in channels x 2 (omega arith), place_in channels x 3 (omega arith), place_in channels x 4 (omega arith), place_in channels x 5 (omega arith), place_in channels x 6 (omega arith), place_in channels x 7 (omega arith))
+    cc (
+      place_in channels x 0 (omega arith),
+      place_in channels x 1 (omega arith),
+      place_in channels x 2 (omega arith),
+      place_in channels x 3 (omega arith),
+      place_in channels x 4 (omega arith),
+      place_in channels x 5 (omega arith),
+      place_in channels x 6 (omega arith),
+      place_in channels x 7 (omega arith),
+    )
 
 fold6_case : (q k : ℕ) (x : List ℤ) (a b : ℤ) (more : List ℤ) → q ≤ 8 → channels_of k ≤ 6 → ((c : ℕ) → c < 6 → IsSample q (at x c)) →
     take (channels_of k) (applied (fold_rows k 6) (steps_by k q) 0 (take (channels_of k) (coded_of Fold q 6 x) ++ a ∷ b ∷ more)) ≡ take (channels_of k) (presented_of Fold q 6 k x)
@@ -346,7 +453,8 @@ side_case q channels (suc zero) x a b more e n h = absurd (omega (arith, e))
 side_case q channels (suc (suc k)) x a b more e n h = absurd (omega (arith, e))
 
 pub mixes : (mix : Mix) (depth channels k : ℕ) (x : List ℤ) (a b : ℤ) (more : List ℤ) → AreMixed mix depth channels → channels_of k ≤ channels → ((c : ℕ) → c < channels → IsSample (24 - depth) (at x c)) →
-    take (channels_of k) (applied (rows_of mix k channels) (steps_of mix (24 - depth) k) (bypass_of mix x) (take (channels_of k) (coded_of mix (24 - depth) channels x) ++ a ∷ b ∷ more)) ≡ take (channels_of k) (presented_of mix (24 - depth) channels k x)
+    take (channels_of k) (applied (rows_of mix k channels) (steps_of mix (24 - depth) k) (bypass_of mix x) (take (channels_of k) (coded_of mix (24 - depth) channels x) ++ a ∷ b ∷ more)) ≡ take
+    (channels_of k) (presented_of mix (24 - depth) channels k x)
 mixes Split depth channels k x a b more m n h = split_case (24 - depth) channels k x a b more n
 mixes Fold depth channels k x a b more m n h = fold_case (24 - depth) channels k x a b more (omega (arith, m.depth_least)) m.shape n h
 mixes Bypass depth channels k x a b more m n h = bypass_case (24 - depth) channels k x a b more m.shape.0 n h

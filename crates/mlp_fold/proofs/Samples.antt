@@ -5,7 +5,8 @@ use Rattle.std.proofs.Math.Pow.{pow-lt}
 use Rattle.mlp_arith.specs.Words.{floor_by}
 use Rattle.mlp_arith.proofs.Floors.{floor_le, lt_floor}
 use Rattle.mlp_arith.proofs.Residues.{clear_le, lt_clear}
-use Rattle.mlp_fold.specs.Mix.{at, Is26, IsSample, shown, stereo, halved, presented_fold6, presented_fold8}
+use Rattle.mlp_arith.specs.Ranges.{Is26}
+use Rattle.mlp_fold.specs.Mix.{at, IsSample, shown, stereo, halved, presented_fold6, presented_fold8}
 
 pub sample_fits : (q : ℕ) (x : ℤ) → IsSample q x → FitsSigned w32 x
 sample_fits q x h = omega (arith, ints, h.low, h.high)

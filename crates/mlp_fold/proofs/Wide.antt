@@ -12,7 +12,8 @@ use Rattle.mlp_fold.specs.declared.profile.Mix.{Mix}
 use Rattle.mlp_fold.specs.declared.profile.Mix.TheVariants.{Split, Fold, Bypass, Side}
 use Rattle.mlp_fold.specs.Profile.{AreMixed}
 use Rattle.mlp_fold.proofs.Samples.{eight}
-use Rattle.mlp_fold.specs.Mix.{at, Is24, IsSample, channels_of, place, shown, lowered, stereo, halved, front6, front8, presented_of, presented_fold6, presented_fold8}
+use Rattle.mlp_arith.specs.Ranges.{Is24}
+use Rattle.mlp_fold.specs.Mix.{at, IsSample, channels_of, place, shown, lowered, stereo, halved, front6, front8, presented_of, presented_fold6, presented_fold8}
 
 zero24 : Is24 (pos 0)
 zero24 = record { low = omega (arith, ints); high = omega (arith, ints) }
@@ -28,7 +29,9 @@ place24 : (q n channels c : ℕ) (x : List ℤ) → n ≤ channels → ((c : ℕ
 place24 q n channels c x l h = either24 (nat_lt c n) (at x c) (λ e. let k : c < n = ltb-true c n e in sample24 q (at x c) (h c (omega arith)))
 
 shown24 : (q n channels : ℕ) (x : List ℤ) → n ≤ channels → ((c : ℕ) → c < channels → IsSample q (at x c)) → (c : ℕ) → Is24 (at (shown n x) c)
-shown24 q n channels x l h = eight Is24 zero24 (place n x 0) (place n x 1) (place n x 2) (place n x 3) (place n x 4) (place n x 5) (place n x 6) (place n x 7) (place24 q n channels 0 x l h) (place24 q n channels 1 x l h) (place24 q n channels 2 x l h) (place24 q n channels 3 x l h) (place24 q n channels 4 x l h) (place24 q n channels 5 x l h) (place24 q n channels 6 x l h) (place24 q n channels 7 x l h)
+shown24 q n channels x l h = eight Is24 zero24 (place n x 0) (place n x 1) (place n x 2) (place n x 3) (place n x 4) (place n x 5) (place n x 6) (place n x 7) (place24 q n channels 0 x l h)
+    (place24 q n channels 1 x l h) (place24 q n channels 2 x l h) (place24 q n channels 3 x l h) (place24 q n channels 4 x l h) (place24 q n channels 5 x l h) (place24 q n channels 6 x l h)
+    (place24 q n channels 7 x l h)
 
 -- clearing low bits doesn't leave 24 bits
 clear_ge : (q : ℕ) (v : ℤ) → q ≤ 8 → neg_ℤ (pos 8388608) ≤ℤ v → neg_ℤ (pos 8388608) ≤ℤ clear q v
@@ -49,8 +52,32 @@ cleared24 q v l a b = record { low = clear_ge q v l a; high = omega (arith, ints
 stereo24 : (q : ℕ) (x s : ℤ) → q ≤ 8 → IsSample q x → neg_ℤ (pos 194372448256) ≤ℤ s → s ≤ℤ pos 194372448256 → Is24 (stereo q (lowered q x s))
 stereo24 q x s l f a b =
     let z : ℤ = lowered q x s in
-    let low : neg_ℤ (pos 20253000) ≤ℤ lowered q x s = omega (arith, ints, clear_le q (floor_by 14 s), lt_clear q (floor_by 14 s), floor_le s 16384 (omega arith), lt_floor s 16384 (omega arith), pow-lt {i = q} {j = 9} (omega arith), f.low, f.high, a, b) in
-    let high : lowered q x s ≤ℤ pos 20253000 = omega (arith, ints, clear_le q (floor_by 14 s), lt_clear q (floor_by 14 s), floor_le s 16384 (omega arith), lt_floor s 16384 (omega arith), pow-lt {i = q} {j = 9} (omega arith), f.low, f.high, a, b) in
+    let low : neg_ℤ (pos 20253000) ≤ℤ lowered q x s = omega (
+      arith,
+      ints,
+      clear_le q (floor_by 14 s),
+      lt_clear q (floor_by 14 s),
+      floor_le s 16384 (omega arith),
+      lt_floor s 16384 (omega arith),
+      pow-lt {i = q} {j = 9} (omega arith),
+      f.low,
+      f.high,
+      a,
+      b,
+    ) in
+    let high : lowered q x s ≤ℤ pos 20253000 = omega (
+      arith,
+      ints,
+      clear_le q (floor_by 14 s),
+      lt_clear q (floor_by 14 s),
+      floor_le s 16384 (omega arith),
+      lt_floor s 16384 (omega arith),
+      pow-lt {i = q} {j = 9} (omega arith),
+      f.low,
+      f.high,
+      a,
+      b,
+    ) in
     part q z l low high
   where
     part : (q : ℕ) (z : ℤ) → q ≤ 8 → neg_ℤ (pos 20253000) ≤ℤ z → z ≤ℤ pos 20253000 → Is24 (clear q (floor_by 14 (pos 6786 *ℤ z)))
@@ -83,8 +110,10 @@ fold8_24 q zero x l h =
     let h6 : IsSample q (at x 6) = h 6 (omega arith) in
     let h7 : IsSample q (at x 7) = h 7 (omega arith) in
     eight Is24 zero24 (stereo q (front8 q (at x 0) (at x 2) (at x 4 +ℤ at x 6))) (stereo q (front8 q (at x 1) (at x 2) (at x 5 +ℤ at x 7))) (pos 0) (pos 0) (pos 0) (pos 0) (pos 0) (pos 0)
-    (stereo24 q (at x 0) (negsuc 11584 *ℤ at x 2 +ℤ negsuc 5792 *ℤ (at x 4 +ℤ at x 6)) l (h 0 (omega arith)) (omega (arith, ints, h2.low, h2.high, h4.low, h4.high, h6.low, h6.high)) (omega (arith, ints, h2.low, h2.high, h4.low, h4.high, h6.low, h6.high)))
-    (stereo24 q (at x 1) (negsuc 11584 *ℤ at x 2 +ℤ negsuc 5792 *ℤ (at x 5 +ℤ at x 7)) l (h 1 (omega arith)) (omega (arith, ints, h2.low, h2.high, h5.low, h5.high, h7.low, h7.high)) (omega (arith, ints, h2.low, h2.high, h5.low, h5.high, h7.low, h7.high)))
+    (stereo24 q (at x 0) (negsuc 11584 *ℤ at x 2 +ℤ negsuc 5792 *ℤ (at x 4 +ℤ at x 6)) l (h 0 (omega arith)) (omega (arith, ints, h2.low, h2.high, h4.low, h4.high, h6.low, h6.high))
+    (omega (arith, ints, h2.low, h2.high, h4.low, h4.high, h6.low, h6.high)))
+    (stereo24 q (at x 1) (negsuc 11584 *ℤ at x 2 +ℤ negsuc 5792 *ℤ (at x 5 +ℤ at x 7)) l (h 1 (omega arith)) (omega (arith, ints, h2.low, h2.high, h5.low, h5.high, h7.low, h7.high))
+    (omega (arith, ints, h2.low, h2.high, h5.low, h5.high, h7.low, h7.high)))
     zero24 zero24 zero24 zero24 zero24 zero24
 fold8_24 q (suc zero) x l h =
     eight Is24 zero24 (at x 0) (at x 1) (at x 2) (at x 3) (halved q (at x 4 +ℤ at x 6)) (halved q (at x 5 +ℤ at x 7)) (pos 0) (pos 0)
@@ -100,7 +129,8 @@ fold24 q channels k x l shape h c =
       | inr e ↦ let f : channels ≡ 8 = shape.1 e.1 in subst P (sym f) (fold8_24 q k x l (λ i m. h i (omega (arith, f))) c)
     ]
 
-pub wide : (mix : Mix) (depth channels k : ℕ) (x : List ℤ) → AreMixed mix depth channels → channels_of k ≤ channels → ((c : ℕ) → c < channels → IsSample (24 - depth) (at x c)) → (c : ℕ) → Is24 (at (presented_of mix (24 - depth) channels k x) c)
+pub wide : (mix : Mix) (depth channels k : ℕ) (x : List ℤ) → AreMixed mix depth channels → channels_of k ≤ channels → ((c : ℕ) → c < channels → IsSample (24 - depth) (at x c)) → (c : ℕ) →
+    Is24 (at (presented_of mix (24 - depth) channels k x) c)
 wide Split depth channels k x m n h = shown24 (24 - depth) (channels_of k) channels x n h
 wide Fold depth channels k x m n h = fold24 (24 - depth) channels k x (omega (arith, m.depth_least)) m.shape h
 wide Bypass depth channels k x m n h = shown24 (24 - depth) (channels_of k) channels x n h

@@ -2,3 +2,4 @@ pub mod Profile
 pub mod Mix
 pub mod Rows
 pub mod Undone
+pub mod Substreams

@@ -1,6 +1,7 @@
 -- The mixes: what is coded of a frame of PCM, and what each presentation shows of it. Values are of 24 bits, with low q bits 0.
 use Rattle.std.specs.Prelude.{◌≡◌, ℕ, zero, suc, ◌+◌, ◌*◌, ◌^◌, ◌<◌, ◌==◌, nat_lt, List, [], ◌∷◌, slice_index_or, ℤ, pos, neg_ℤ, ◌+ℤ◌, ◌-ℤ◌, ◌*ℤ◌, ◌≤ℤ◌, ◌<ℤ◌, cond, if◌then◌else◌}
 use Rattle.mlp_arith.specs.Words.{floor_by, clear}
+use Rattle.mlp_arith.specs.Ranges.{Is26}
 use Rattle.mlp_matrix.specs.Matrix.{is_even}
 use Rattle.mlp_fold.specs.declared.profile.Mix.{Mix}
 use Rattle.mlp_fold.specs.declared.profile.Mix.TheVariants.{Split, Fold, Bypass, Side}
@@ -18,16 +19,6 @@ pub record IsSample (q : ℕ) (x : ℤ) : Type 0 where
 -- a frame whose first channels hold such values
 abbrev pub AreSamples : ℕ → ℕ → List ℤ → Type 0
 AreSamples q channels frame = (c : ℕ) → c < channels → IsSample q (at frame c)
-
--- 24 signed bits
-pub record Is24 (v : ℤ) : Type 0 where
-  pub low : neg_ℤ (pos (2 ^ 23)) ≤ℤ v
-  pub high : v <ℤ pos (2 ^ 23)
-
--- 26 signed bits
-pub record Is26 (v : ℤ) : Type 0 where
-  pub low : neg_ℤ (pos (2 ^ 25)) ≤ℤ v
-  pub high : v <ℤ pos (2 ^ 25)
 
 -- the channels of presentation or substream k, counted from the first
 abbrev pub channels_of : ℕ → ℕ
@@ -54,9 +45,12 @@ front6 q x centre surround = lowered q x (neg_ℤ (pos 11585) *ℤ centre +ℤ n
 abbrev pub front8 : ℕ → ℤ → ℤ → ℤ → ℤ
 front8 q x centre sum = lowered q x (neg_ℤ (pos 11585) *ℤ centre +ℤ neg_ℤ (pos 5793) *ℤ sum)
 
--- a front channel of the stereo presentation, and a side channel of the six-channel one
+-- a front channel of the stereo presentation, both of them, and a side channel of the six-channel one
 abbrev pub stereo : ℕ → ℤ → ℤ
 stereo q z = clear q (floor_by 14 (pos 6786 *ℤ z))
+
+abbrev pub stereo_pair : ℕ → ℤ → ℤ → List ℤ
+stereo_pair q left right = stereo q left ∷ stereo q right ∷ pos 0 ∷ pos 0 ∷ pos 0 ∷ pos 0 ∷ pos 0 ∷ pos 0 ∷ []
 
 abbrev pub halved : ℕ → ℤ → ℤ
 halved q z = clear q (floor_by 1 z)
@@ -103,12 +97,12 @@ IsCoded coded = (c : ℕ) → Is26 (at coded.values c)
 -- ---- what a presentation shows
 
 abbrev pub presented_fold6 : ℕ → ℕ → List ℤ → List ℤ
-presented_fold6 q zero x = stereo q (front6 q (at x 0) (at x 2) (at x 4)) ∷ stereo q (front6 q (at x 1) (at x 2) (at x 5)) ∷ pos 0 ∷ pos 0 ∷ pos 0 ∷ pos 0 ∷ pos 0 ∷ pos 0 ∷ []
+presented_fold6 q zero x = stereo_pair q (front6 q (at x 0) (at x 2) (at x 4)) (front6 q (at x 1) (at x 2) (at x 5))
 presented_fold6 q (suc k) x = shown 6 x
 
 abbrev pub presented_fold8 : ℕ → ℕ → List ℤ → List ℤ
 presented_fold8 q zero x =
-    stereo q (front8 q (at x 0) (at x 2) (at x 4 +ℤ at x 6)) ∷ stereo q (front8 q (at x 1) (at x 2) (at x 5 +ℤ at x 7)) ∷ pos 0 ∷ pos 0 ∷ pos 0 ∷ pos 0 ∷ pos 0 ∷ pos 0 ∷ []
+    stereo_pair q (front8 q (at x 0) (at x 2) (at x 4 +ℤ at x 6)) (front8 q (at x 1) (at x 2) (at x 5 +ℤ at x 7))
 presented_fold8 q (suc zero) x = at x 0 ∷ at x 1 ∷ at x 2 ∷ at x 3 ∷ halved q (at x 4 +ℤ at x 6) ∷ halved q (at x 5 +ℤ at x 7) ∷ pos 0 ∷ pos 0 ∷ []
 presented_fold8 q (suc (suc k)) x = shown 8 x
 

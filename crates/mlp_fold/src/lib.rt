@@ -2,6 +2,7 @@
 #![tactic(auto)]
 
 mod blocks;
+mod channels;
 mod coding;
 pub mod laws;
 mod matrices;
@@ -10,11 +11,9 @@ mod profile;
 mod sums;
 
 pub use blocks::{code_frames, present_frames};
+pub use channels::{channels_of, first_channel, last_channel, substreams};
 pub use coding::{CodedFrame, coded};
 pub use matrices::{rows, steps};
 pub use mlp_syntax::ProfileFault;
 pub use presenting::presented;
 pub use profile::{Mix, Profile};
-
-#[cfg(test)]
-mod tests;

@@ -1,31 +1,22 @@
 //! What a presentation shows of a frame.
 
-ghost use Rattle.std.specs.Prelude.{◌≡◌, ◌≤◌, ◌-◌, [], ◌∷◌, pos};
+ghost use Rattle.std.specs.Prelude.{◌≡◌, ◌≤◌, ◌-◌};
 ghost use Rattle.mlp_fold.specs.Profile.{AreMixed};
-ghost use Rattle.mlp_fold.specs.Mix.{at, Is26, AreSamples, channels_of, stereo, presented_of, presented_fold6, presented_fold8};
+ghost use Rattle.mlp_arith.specs.Ranges.{Is26};
+ghost use Rattle.mlp_fold.specs.Mix.{at, AreSamples, stereo, stereo_pair, presented_of, presented_fold6, presented_fold8};
 
+use crate::channels::channels_of;
 use crate::coding;
 use crate::coding::shown;
 use crate::profile::Mix;
 use crate::sums::{both, halved, stereo};
-
-/// The number of channels of presentation `k`, as far as its frames have them.
-pub fn channels_of(k: u8) -> u8
-    ensures { result ≡ channels_of k }
-{
-    match k {
-        0 => 2,
-        1 => 6,
-        _ => 8,
-    }
-}
 
 /// The stereo presentation of coded channels.
 fn stereo_pair(q: u8, coded: &[i32; 8]) -> [i32; 8]
     requires q { q ≤ 8 }
     requires left { Is26 (at coded.now 0) }
     requires right { Is26 (at coded.now 1) }
-    ensures { result ≡ stereo q (at coded.now 0) ∷ stereo q (at coded.now 1) ∷ pos 0 ∷ pos 0 ∷ pos 0 ∷ pos 0 ∷ pos 0 ∷ pos 0 ∷ [] }
+    ensures { result ≡ stereo_pair q (at coded.now 0) (at coded.now 1) }
 {
     [stereo(q, coded[0]), stereo(q, coded[1]), 0, 0, 0, 0, 0, 0]
 }

@@ -6,6 +6,8 @@ mod arith;
 #[cfg(test)]
 mod fifo;
 #[cfg(test)]
+mod fold;
+#[cfg(test)]
 mod io;
 #[cfg(test)]
 mod matrix;

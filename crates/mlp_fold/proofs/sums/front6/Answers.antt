@@ -4,4 +4,12 @@ use Rattle.mlp_fold.proofs.sums.front6.Goals as goal
 
 pub returns : goal.returns
 returns c =
-    cc (to_z-of_z w32 c.args.value c.ranges.value, to_z-of_z w32 c.args.centre c.ranges.centre, to_z-of_z w32 c.args.surround c.ranges.surround, to_z-of_z w64 c.part6.result (record { sfits = c.part6.type_inv }), c.part6.ensures.value, c.lowered.ensures, to_z-of_z w32 c.lowered.result (record { sfits = c.lowered.type_inv }))
+    cc (
+      to_z-of_z w32 c.args.value c.ranges.value,
+      to_z-of_z w32 c.args.centre c.ranges.centre,
+      to_z-of_z w32 c.args.surround c.ranges.surround,
+      to_z-of_z w64 c.part6.result (record { sfits = c.part6.type_inv }),
+      c.part6.ensures.value,
+      c.lowered.ensures,
+      to_z-of_z w32 c.lowered.result (record { sfits = c.lowered.type_inv }),
+    )
