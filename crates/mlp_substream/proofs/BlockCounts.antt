@@ -20,42 +20,38 @@ use Rattle.mlp_params.proofs.LawfulStates.{restart_is_state}
 use Rattle.mlp_params.proofs.LawfulSteps.{applied_is}
 use Rattle.mlp_substream.specs.declared.known.Place.{Place}
 use Rattle.mlp_substream.specs.declared.known.Known.{Known}
-use Rattle.mlp_substream.specs.Blocks.{against, restarted, given, after_head, block_size_in, At, Block, block, after_block, FitsPlace, IsPlace}
-use Rattle.mlp_substream.specs.Segment.{nested, segment}
+use Rattle.mlp_substream.specs.Blocks.{against, restarted, given, after_head, block_size_in, BlockContext, Block, block, after_block, IsPlace, first_context, ForceFits}
+use Rattle.mlp_substream.specs.Segment.{nested, segment, blocks_from}
 use Rattle.mlp_substream.proofs.BlockLaws.{block_is}
-use Rattle.mlp_substream.proofs.ReadingLaws.{at_of, least_size}
+use Rattle.mlp_substream.proofs.ReadingLaws.{least_size}
 use Rattle.mlp_substream.proofs.WritingParts.{restart_allowed, params_allowed, head_parts, block_parts}
-use Rattle.mlp_substream.proofs.WritingBlocks.{blocks_from}
 use Rattle.mlp_substream.proofs.WritingEnds.{has_tail, meets_tail, tail_blocks}
-
-abbrev pub IsLawful : Place → Option State → Type 0
-IsLawful place force = IfSome force (λ s. FitsPlace place.format place.unit_frames s)
 
 -- ---- what is in force stays lawful
 
-restarted_lawful : (place : Place) → IsPlace place → (force : Option State) (o : Option Restart) → IsLawful place force → IfSome o (λ r. Allowed (restart place.format) r) → IsLawful place (restarted place force o)
+restarted_lawful : (place : Place) → IsPlace place → (force : Option State) (o : Option Restart) → ForceFits place force → IfSome o (λ r. Allowed (restart place.format) r) → ForceFits place (restarted place force o)
 restarted_lawful place ok force None lawful a = lawful
 restarted_lawful place ok force (Some r) lawful a = record { lawful = restart_is_state place.format place.unit_frames r a ok.least ok.most; format_is = refl; frames_are = refl }
 
-given_lawful : (place : Place) (force : Option State) (o : Option Params) → IsLawful place force → IfSome o (λ p. IfSome force (λ s. Allowed (params s) p)) → IsLawful place (option_map (given o) force)
+given_lawful : (place : Place) (force : Option State) (o : Option Params) → ForceFits place force → IfSome o (λ p. IfSome force (λ s. Allowed (params s) p)) → ForceFits place (option_map (given o) force)
 given_lawful place None o lawful a = tt
 given_lawful place (Some s) None lawful a = lawful
 given_lawful place (Some s) (Some p) lawful a = record { lawful = applied_is s p lawful.lawful a; format_is = lawful.format_is; frames_are = lawful.frames_are }
 
 -- without anything in force no frames are spelled
-some_frames : (place : Place) (force : Option State) (l : State → Layout (List FrameCode)) (fs : List FrameCode) → IsLawful place force → (against force l).Fits fs → 8 ≤ block_size_in force
+some_frames : (place : Place) (force : Option State) (l : State → Layout (List FrameCode)) (fs : List FrameCode) → ForceFits place force → (against force l).Fits fs → 8 ≤ block_size_in force
 unfolding against never
 some_frames place None l fs lawful fits = absurd fits
 some_frames place (Some s) l fs lawful fits = least_size s lawful.lawful
 
 -- ---- a block has 8 frames at least, and there is room for them
 
-pub record Counted (place : Place) (at : At) (b : Block) : Type 0 where
+pub record Counted (place : Place) (at : BlockContext) (b : Block) : Type 0 where
   pub least : 8 ≤ b.head.frames
   pub room : at.so_far + b.head.frames ≤ place.unit_frames
-  pub lawful : IsLawful place (after_head place at.force b.head)
+  pub lawful : ForceFits place (after_head place at.force b.head)
 
-counted : (place : Place) (known : Known) → IsPlace place → (at : At) (b : Block) → IsLawful place at.force → Allowed (block place known at) b → Counted place at b
+pub counted : (place : Place) (known : Known) → IsPlace place → (at : BlockContext) (b : Block) → ForceFits place at.force → Allowed (block place known at) b → Counted place at b
 counted place known ok at b lawful a =
     let parts = block_parts place known at b a in
     let h = head_parts place known at.due at.force b.head parts.head in
@@ -70,7 +66,7 @@ counted place known ok at b lawful a =
 -- ---- so there are few blocks
 
 module _ (place : Place) (known : Known) (ok : IsPlace place) where
-  pub count_blocks : (n : ℕ) (at : At) (bs : List Block) → IsLawful place at.force → Allowed (blocks_from place known n at) bs → at.so_far + 8 * length bs ≤ place.unit_frames
+  pub count_blocks : (n : ℕ) (at : BlockContext) (bs : List Block) → ForceFits place at.force → Allowed (blocks_from place known n at) bs → at.so_far + 8 * length bs ≤ place.unit_frames
   unfolding up_to_last never item part chosen
   count_blocks zero at bs lawful a = absurd a.fits
   count_blocks (suc n) at [] lawful a = absurd a.fits
@@ -85,9 +81,9 @@ unfolding nested
 nested_count [] cs = refl
 nested_count (h ∷ hs) cs = ap suc (nested_count hs _)
 
-pub segment_blocks : (place : Place) (known : Known) (force : Option State) (checked : Bool) (s : Segment) → IsPlace place → IsLawful place force → (segment place known force checked).Fits s → (segment place known force checked).Meets s → 8 * length s.blocks.items ≤ place.unit_frames
+pub segment_blocks : (place : Place) (known : Known) (force : Option State) (checked : Bool) (s : Segment) → IsPlace place → ForceFits place force → (segment place known force checked).Fits s → (segment place known force checked).Meets s → 8 * length s.blocks.items ≤ place.unit_frames
 segment_blocks place known force checked s ok lawful fits meets =
-    let at = at_of force 0 place.major in
+    let at = first_context place force in
     let blocks = tail_blocks place known at checked s (has_tail place known force s checked fits) (meets_tail place known force s checked meets) in
     omega (arith, count_blocks place known ok 21 at (nested s.blocks.items s.codes.items) lawful blocks, nested_count s.blocks.items s.codes.items)
 
@@ -99,25 +95,25 @@ then_same (Err e) f g h = refl
 
 module _ (place : Place) (known : Known) (ok : IsPlace place) (all : List Bool) where
   -- what is read behind a block
-  abbrev behind_block : ℕ → At → Bool × ℕ → Read (List Block)
+  abbrev behind_block : ℕ → BlockContext → Bool × ℕ → Read (List Block)
   behind_block n at last = (chosen last.0 (made []) (blocks_from place known n at)).read all last.1
 
   abbrev with_block : Block → Read (List Block) → Read (List Block)
   with_block b r = r >>= λ bs. Ok (b ∷ bs.0, bs.1)
 
-  behind_same : (n m : ℕ) (at : At) (last : Bool × ℕ) → (blocks_from place known n at).read all last.1 ≡ (blocks_from place known m at).read all last.1 → behind_block n at last ≡ behind_block m at last
+  behind_same : (n m : ℕ) (at : BlockContext) (last : Bool × ℕ) → (blocks_from place known n at).read all last.1 ≡ (blocks_from place known m at).read all last.1 → behind_block n at last ≡ behind_block m at last
   unfolding chosen
   behind_same n m at (true, p) h = refl
   behind_same n m at (false, p) h = h
 
   -- the bounds are above what is left of the unit's frames
-  pub record Ample (at : At) (n m : ℕ) : Type 0 where
+  pub record Ample (at : BlockContext) (n m : ℕ) : Type 0 where
     pub room : at.so_far ≤ place.unit_frames
     pub one : place.unit_frames < at.so_far + 8 * n
     pub other : place.unit_frames < at.so_far + 8 * m
 
-  module _ (n m : ℕ) (later : (at : At) (p : ℕ) → p ≤ length all → IsLawful place at.force → Ample at n m → (blocks_from place known n at).read all p ≡ (blocks_from place known m at).read all p) where
-    block_same : (at : At) (p : ℕ) → p ≤ length all → IsLawful place at.force → Ample at (suc n) (suc m) → (b : Block × ℕ) → (block place known at).read all p ≡ Ok b
+  module _ (n m : ℕ) (later : (at : BlockContext) (p : ℕ) → p ≤ length all → ForceFits place at.force → Ample at n m → (blocks_from place known n at).read all p ≡ (blocks_from place known m at).read all p) where
+    block_same : (at : BlockContext) (p : ℕ) → p ≤ length all → ForceFits place at.force → Ample at (suc n) (suc m) → (b : Block × ℕ) → (block place known at).read all p ≡ Ok b
         → with_block b.0 (flag.read all b.1 >>= behind_block n (after_block place at b.0)) ≡ with_block b.0 (flag.read all b.1 >>= behind_block m (after_block place at b.0))
     block_same at p le lawful h b read =
         let found = is_found (block_is place known at) all p le b read in
@@ -129,7 +125,7 @@ module _ (place : Place) (known : Known) (ok : IsPlace place) (all : List Bool) 
         let within-flag = is_within flag all b.1 last.0 last.1 found-flag.0 found-flag.1 in
         behind_same n m (after_block place at b.0) last (later (after_block place at b.0) last.1 within-flag c.lawful ample)))
 
-  pub same_blocks : (n m : ℕ) (at : At) (p : ℕ) → p ≤ length all → IsLawful place at.force → Ample at n m → (blocks_from place known n at).read all p ≡ (blocks_from place known m at).read all p
+  pub same_blocks : (n m : ℕ) (at : BlockContext) (p : ℕ) → p ≤ length all → ForceFits place at.force → Ample at n m → (blocks_from place known n at).read all p ≡ (blocks_from place known m at).read all p
   unfolding up_to_last item part
   same_blocks zero m at p le lawful h = absurd (omega arith)
   same_blocks (suc n) zero at p le lawful h = absurd (omega arith)

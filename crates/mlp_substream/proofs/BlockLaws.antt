@@ -15,7 +15,7 @@ use Rattle.mlp_residual.proofs.FrameLaws.{frames_of_is, series-length}
 use Rattle.mlp_substream.specs.declared.known.Place.{Place}
 use Rattle.mlp_substream.specs.declared.known.Known.{Known}
 use Rattle.mlp_substream.specs.Restarts.{flags, restart_rules, judged_restart}
-use Rattle.mlp_substream.specs.Blocks.{against, At, Block, behind_flags, head, block}
+use Rattle.mlp_substream.specs.Blocks.{against, BlockContext, Block, behind_flags, head, block}
 
 pub flags_is : (due : Bool) → IsLayout (flags due)
 unfolding flags
@@ -49,7 +49,7 @@ pub head_is : (place : Place) (known : Known) (due : Bool) (force : Option State
 unfolding head
 head_is place known due force = part_is _ (flags_is due) (behind_flags_is place known force) (λ f fits meets h rest. flags_set place known force f h rest)
 
-pub block_is : (place : Place) (known : Known) (at : At) → IsLayout (block place known at)
+pub block_is : (place : Place) (known : Known) (at : BlockContext) → IsLayout (block place known at)
 unfolding block
 block_is place known at = search (layouts, head_is, against_is, frames_of_is) depth 40
 
@@ -57,11 +57,11 @@ pub frames_count : (s : State) (n : ℕ) (fs : List FrameCode) → (frames_of s 
 unfolding frames_of coded_frames
 frames_count s n fs fits = series-length (λ before. frame (coding_of s)) n [] fs fits
 
-against_count : (force : Option State) (n : ℕ) (fs : List FrameCode) → (against force (λ s. frames_of s n)).Fits fs → length fs ≡ n
+pub against_count : (force : Option State) (n : ℕ) (fs : List FrameCode) → (against force (λ s. frames_of s n)).Fits fs → length fs ≡ n
 unfolding against never
 against_count None n fs fits = absurd fits
 against_count (Some s) n fs fits = frames_count s n fs fits
 
-pub block_fits : (place : Place) (known : Known) (at : At) (b : Block) → (block place known at).Fits b → length b.frames ≡ b.head.frames
+pub block_fits : (place : Place) (known : Known) (at : BlockContext) (b : Block) → (block place known at).Fits b → length b.frames ≡ b.head.frames
 unfolding block part tested
 block_fits place known at b fits = against_count _ b.head.frames b.frames fits.1.0

@@ -7,14 +7,13 @@ use Rattle.mlp_syntax.specs.declared.fault.Field.TheVariants as rule
 use Rattle.mlp_syntax.specs.declared.fault.Broken.{Broken}
 use Rattle.mlp_layout.specs.Reading.{Read, broken, short}
 use Rattle.mlp_layout.specs.Layout.{Layout, number_of}
-use Rattle.mlp_layout.specs.Combined.{up_to_last}
 use Rattle.mlp_layout.specs.Tails.{then_tail, ending_read, part_tail, placed, ending, whole_text, Whole, EndJudge, judged_at_end, checked_part, parity_is, check_is, checked_first, chosen_whole}
 use Rattle.mlp_params.specs.declared.state.State.{State}
 use Rattle.mlp_substream.specs.declared.known.Place.{Place}
 use Rattle.mlp_substream.specs.declared.known.Known.{Known}
 use Rattle.mlp_substream.specs.Checks.{parity_of, check_of, checks_fault}
-use Rattle.mlp_substream.specs.Blocks.{At, Block, block, after_block}
-use Rattle.mlp_substream.specs.Segment.{heads_of, codes_of, terminator, padding_width, most_blocks, segment_tail, segment_text, segment}
+use Rattle.mlp_substream.specs.Blocks.{BlockContext, Block}
+use Rattle.mlp_substream.specs.Segment.{heads_of, codes_of, terminator, padding_width, most_blocks, segment_tail, segment_text, segment, blocks_from}
 
 abbrev none_of : Option Broken
 none_of = None
@@ -38,12 +37,12 @@ ending_made field width last made all p = go (eqb (length all) p) (eqb (length a
 abbrev record_of : List Block → Bool → ℕ → Option ℕ → Segment
 record_of bs checked padding t = record { blocks = record { items = heads_of bs }; codes = record { items = codes_of bs }; padding = padding; terminator = t; checked = checked }
 
-module _ (place : Place) (known : Known) (at : At) (checked : Bool) (all : List Bool) where
-  pub tail_blocks_fail : (e : Broken) → (up_to_last (block place known) (after_block place) rule.BlockOverrun most_blocks at).read all 0 ≡ Err e → (whole_text (segment_tail place known at checked)).read all ≡ Err e
+module _ (place : Place) (known : Known) (at : BlockContext) (checked : Bool) (all : List Bool) where
+  pub tail_blocks_fail : (e : Broken) → (blocks_from place known most_blocks at).read all 0 ≡ Err e → (whole_text (segment_tail place known at checked)).read all ≡ Err e
   unfolding whole_text segment_tail part_tail
   tail_blocks_fail e h = rw h refl
 
-  module _ (bs : List Block) (q : ℕ) (h : (up_to_last (block place known) (after_block place) rule.BlockOverrun most_blocks at).read all 0 ≡ Ok (bs, q)) where
+  module _ (bs : List Block) (q : ℕ) (h : (blocks_from place known most_blocks at).read all 0 ≡ Ok (bs, q)) where
     pub tail_padding_fails : (e : Broken) → (number_of (padding_width q)).read all q ≡ Err e → (whole_text (segment_tail place known at checked)).read all ≡ Err e
     unfolding whole_text segment_tail part_tail placed
     tail_padding_fails e k = rw (h, k) refl

@@ -9,4 +9,10 @@ pub mod WritingBlocks
 pub mod WritingEnds
 pub mod RoundTrip
 pub mod BlockCounts
+pub mod PlayableLaws
+pub mod InForceLaws
+pub mod SegmentChanges
 pub mod KnownLaws
+pub mod FreshLaws
+pub mod TimingLaws
+pub mod StampedLaws

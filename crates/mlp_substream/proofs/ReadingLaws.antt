@@ -16,11 +16,8 @@ use Rattle.mlp_params.specs.declared.state.State.{State}
 use Rattle.mlp_residual.specs.Frames.{frames_of}
 use Rattle.mlp_substream.specs.declared.known.Place.{Place}
 use Rattle.mlp_substream.specs.declared.known.Known.{Known}
-use Rattle.mlp_substream.specs.Blocks.{At, Block, against, steps_fit_in, block_size_in, head, after_head, block, force_after, FitsPlace}
+use Rattle.mlp_substream.specs.Blocks.{BlockContext, Block, against, steps_fit_in, block_size_in, head, after_head, block, force_after, context_of, ForceFits}
 use Rattle.mlp_substream.specs.Segment.{heads_of, codes_of}
-
-abbrev pub at_of : Option State → ℕ → Bool → At
-at_of force so_far due = record { force = force; so_far = so_far; due = due }
 
 abbrev ok_of : {A : Type 0} → A → Result A Broken
 ok_of x = Ok x
@@ -40,7 +37,7 @@ appended before after place (Ok x) h =
     record { items = x.0; read_is = ap (λ (p : ℕ). ok_of (x.0, p)) (ap (λ (y : List _ × ℕ). y.1) same); after_is = sym (ap (λ (y : List _ × ℕ). y.0) same) }
 appended before after place (Err e) h = absurd cc
 
-module _ (place : Place) (known : Known) (at : At) (all : List Bool) (p : ℕ) where
+module _ (place : Place) (known : Known) (at : BlockContext) (all : List Bool) (p : ℕ) where
   pub block_head_fails : (e : Broken) → (head place known at.due at.force).read all p ≡ Err e → (block place known at).read all p ≡ Err e
   unfolding block part
   block_head_fails e h = rw h refl
@@ -80,8 +77,8 @@ pub force_after-push : (place : Place) (force : Option State) (hs : List BlockHe
 force_after-push place force [] h = refl
 force_after-push place force (g ∷ hs) h = force_after-push place (after_head place force g) hs h
 
-pub at_is : (s t : Option State) (m n : ℕ) (due : Bool) → s ≡ t → m ≡ n → at_of s m due ≡ at_of t n due
-at_is s t m n due e d = ap (λ (x : Option State). at_of x m due) e ∙ ap (λ (k : ℕ). at_of t k due) d
+pub at_is : (s t : Option State) (m n : ℕ) (due : Bool) → s ≡ t → m ≡ n → context_of s m due ≡ context_of t n due
+at_is s t m n due e d = ap (λ (x : Option State). context_of x m due) e ∙ ap (λ (k : ℕ). context_of t k due) d
 
 -- a record with these blocks in place of its own
 abbrev pub with_blocks : Segment → List Block → Segment
@@ -120,11 +117,11 @@ least_size s h = leb-true 8 s.block_size (first_of (leb 8 s.block_size) (leb s.b
     first_of false b e = absurd cc
 
 -- without anything in force no frames are read
-pub least_frames : (place : Place) (force : Option State) (l : State → Layout (List FrameCode)) (all : List Bool) (q r : ℕ) (fs : List FrameCode) → IfSome force (λ s. FitsPlace place.format place.unit_frames s) → (against force l).read all q ≡ Ok (fs, r) → 8 ≤ block_size_in force
+pub least_frames : (place : Place) (force : Option State) (l : State → Layout (List FrameCode)) (all : List Bool) (q r : ℕ) (fs : List FrameCode) → ForceFits place force → (against force l).read all q ≡ Ok (fs, r) → 8 ≤ block_size_in force
 unfolding against never
 least_frames place None l all q r fs h e = absurd cc
 least_frames place (Some s) l all q r fs h e = least_size s h.lawful
 
-pub are_lawful : (place : Place) (force : Option State) → IfSome force (λ s. FitsPlace place.format place.unit_frames s) → IfSome force (λ s. IsState s)
+pub are_lawful : (place : Place) (force : Option State) → ForceFits place force → IfSome force (λ s. IsState s)
 are_lawful place None h = tt
 are_lawful place (Some s) h = h.lawful

@@ -16,8 +16,8 @@ use Rattle.mlp_params.specs.declared.state.State.{State}
 use Rattle.mlp_substream.specs.declared.known.Place.{Place}
 use Rattle.mlp_substream.specs.declared.known.Known.{Known}
 use Rattle.mlp_substream.specs.Checks.{parity_of, check_of}
-use Rattle.mlp_substream.specs.Blocks.{At, Block, block, after_block}
-use Rattle.mlp_substream.specs.Segment.{nested, heads_of, codes_of, terminator, padding_width, most_blocks, segment_tail, segment_text, segment, end_rules}
+use Rattle.mlp_substream.specs.Blocks.{BlockContext, Block, block, after_block, first_context}
+use Rattle.mlp_substream.specs.Segment.{nested, heads_of, codes_of, terminator, padding_width, most_blocks, segment_tail, segment_text, segment, end_rules, blocks_from}
 use Rattle.mlp_substream.proofs.BlockLaws.{block_is, block_fits}
 use Rattle.mlp_substream.proofs.CheckLaws.{parity_small, check_small}
 
@@ -60,7 +60,7 @@ some_bits {S} {A} value after (suc n) s (x ∷ xs) fits = long ((value s).spelli
     long a b c h = omega (arith, length-append a (b ++ c), length-append b c)
 
 module _ (place : Place) where
-  blocks_fit : (known : Known) (n : ℕ) (at : At) (bs : List Block) → (up_to_last (block place known) (after_block place) rule.BlockOverrun n at).Fits bs → AllFramesFit bs
+  blocks_fit : (known : Known) (n : ℕ) (at : BlockContext) (bs : List Block) → (blocks_from place known n at).Fits bs → AllFramesFit bs
   unfolding up_to_last never item part chosen AllFramesFit
   blocks_fit known zero at bs fits = absurd fits
   blocks_fit known (suc n) at [] fits = absurd fits
@@ -88,23 +88,23 @@ module _ (place : Place) where
   unfolding the_rest
   rest_is bs checked = placed_is (λ here. part_tail_is (λ s. s.padding) (number_of_is (padding_width here)) (end_is bs checked) (padding_set bs checked (padding_width here)))
 
-  nested_set : (known : Known) (at : At) (checked : Bool) (bs : List Block) (here : ℕ) (s : Segment) → (up_to_last (block place known) (after_block place) rule.BlockOverrun most_blocks at).Fits bs → (the_rest bs checked).Fits here s → nested s.blocks.items s.codes.items ≡ bs
+  nested_set : (known : Known) (at : BlockContext) (checked : Bool) (bs : List Block) (here : ℕ) (s : Segment) → (blocks_from place known most_blocks at).Fits bs → (the_rest bs checked).Fits here s → nested s.blocks.items s.codes.items ≡ bs
   unfolding the_rest the_end whole_record ending placed part_tail
   nested_set known at checked bs here s h fits =
       let heads : s.blocks.items ≡ heads_of bs = ap (λ (r : Segment). r.blocks.items) (sym fits.1.1) in
       let codes : s.codes.items ≡ codes_of bs = ap (λ (r : Segment). r.codes.items) (sym fits.1.1) in
       rw (heads, codes) (nested-flat bs (blocks_fit known most_blocks at bs h))
 
-  pub segment_tail_is : (known : Known) (at : At) (checked : Bool) → IsTail (segment_tail place known at checked)
+  pub segment_tail_is : (known : Known) (at : BlockContext) (checked : Bool) → IsTail (segment_tail place known at checked)
   unfolding segment_tail the_rest the_end whole_record
   segment_tail_is known at checked =
       part_tail_is (λ s. nested s.blocks.items s.codes.items) (up_to_last_is (block place known) (after_block place) rule.BlockOverrun (block_is place known) most_blocks at)
       (λ bs. rest_is bs checked) (nested_set known at checked)
 
-  pub segment_long : (known : Known) (at : At) (checked : Bool) (s : Segment) → (segment_tail place known at checked).Fits 0 s → 16 ≤ length ((segment_tail place known at checked).spelling 0 s)
+  pub segment_long : (known : Known) (at : BlockContext) (checked : Bool) (s : Segment) → (segment_tail place known at checked).Fits 0 s → 16 ≤ length ((segment_tail place known at checked).spelling 0 s)
   unfolding segment_tail part_tail placed number_of
   segment_long known at checked s fits =
-      let l = up_to_last (block place known) (after_block place) rule.BlockOverrun most_blocks at in
+      let l = blocks_from place known most_blocks at in
       let text = l.spelling (nested s.blocks.items s.codes.items) in
       let some = some_bits (block place known) (after_block place) most_blocks at (nested s.blocks.items s.codes.items) fits.0 in
       aligned text (bits (padding_width (0 + length text)) s.padding) _ some (length-bits (padding_width (0 + length text)) s.padding)
@@ -114,11 +114,11 @@ module _ (place : Place) where
 
   pub segment_text_is : (known : Known) (force : Option State) (checked : Bool) → IsWhole (segment_text place known force checked)
   unfolding segment_text
-  segment_text_is known force checked = judged_at_end_is (end_rules known place.unit_frames) (whole_text_is (segment_tail_is known (record { force = force; so_far = 0; due = place.major }) checked))
+  segment_text_is known force checked = judged_at_end_is (end_rules known place.unit_frames) (whole_text_is (segment_tail_is known (first_context place force) checked))
 
   text_long : (known : Known) (force : Option State) (checked : Bool) (s : Segment) → (segment_text place known force checked).Fits s → 16 ≤ length ((segment_text place known force checked).spelling s)
   unfolding segment_text judged_at_end whole_text
-  text_long known force checked s fits = segment_long known (record { force = force; so_far = 0; due = place.major }) checked s fits
+  text_long known force checked s fits = segment_long known (first_context place force) checked s fits
 
   pub segment_is : (known : Known) (force : Option State) (checked : Bool) → IsWhole (segment place known force checked)
   unfolding segment

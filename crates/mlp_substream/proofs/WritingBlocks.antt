@@ -1,6 +1,5 @@
 -- How the blocks of a segment are written, one after the other.
 use Rattle.std.proofs.Common.{◌≡◌, ℕ, zero, suc, ◌+◌, ◌<◌, ◌≤◌, Bool, false, eqb, List, [], ◌∷◌, ◌++◌, length, take, drop, get_or, Option, refl, sym, ap, subst, ◌∙◌, append_assoc, arith}
-use Rattle.std.specs.Prelude.{IfSome}
 use Rattle.std.proofs.lemmas.List.{length-take, length-drop, drop_all, drop_more, drop-drop}
 use Rattle.std.proofs.Math.Dec.{eqb-suc-suc}
 use Rattle.mlp_syntax.specs.declared.fault.Field.TheVariants as rule
@@ -14,33 +13,29 @@ use Rattle.mlp_params.specs.declared.state.State.{State}
 use Rattle.mlp_layout.specs.Allowed.{Allowed}
 use Rattle.mlp_substream.specs.declared.known.Place.{Place}
 use Rattle.mlp_substream.specs.declared.known.Known.{Known}
-use Rattle.mlp_substream.specs.Blocks.{At, Block, after_head, block, after_block, force_after, FitsPlace}
-use Rattle.mlp_substream.specs.Segment.{nested}
+use Rattle.mlp_substream.specs.Blocks.{BlockContext, Block, after_head, block, after_block, force_after, context_of, ForceFits}
+use Rattle.mlp_substream.specs.Segment.{nested, blocks_from}
 use Rattle.mlp_substream.proofs.BlockLaws.{block_fits}
-use Rattle.mlp_substream.proofs.ReadingLaws.{at_of}
-
-abbrev pub blocks_from : Place → Known → ℕ → At → Layout (List Block)
-blocks_from place known n at = up_to_last (block place known) (after_block place) rule.BlockOverrun n at
 
 -- what is left behind blocks that were written: more blocks, or none
-abbrev pub rest_of : Place → Known → ℕ → At → List Block → Layout (List Block)
+abbrev pub rest_of : Place → Known → ℕ → BlockContext → List Block → Layout (List Block)
 rest_of place known n at bs = chosen (is_empty bs) (made []) (blocks_from place known n at)
 
 module _ (place : Place) (known : Known) where
-  rest_starts : (n : ℕ) (at : At) (bs : List Block) → Allowed (blocks_from place known n at) bs → Allowed (rest_of place known n at bs) bs × ((rest_of place known n at bs).spelling bs ≡ (blocks_from place known n at).spelling bs)
+  rest_starts : (n : ℕ) (at : BlockContext) (bs : List Block) → Allowed (blocks_from place known n at) bs → Allowed (rest_of place known n at bs) bs × ((rest_of place known n at bs).spelling bs ≡ (blocks_from place known n at).spelling bs)
   unfolding up_to_last never item chosen
   rest_starts zero at bs a = absurd a.fits
   rest_starts (suc n) at [] a = absurd a.fits
   rest_starts (suc n) at (b ∷ bs) a = (a, refl)
 
   -- the next block, the bit behind it, and what is left then
-  pub record Next (n : ℕ) (at : At) (b : Block) (bs : List Block) : Type 0 where
+  pub record Next (n : ℕ) (at : BlockContext) (b : Block) (bs : List Block) : Type 0 where
     pub later : ℕ
     pub first : Allowed (block place known at) b
     pub allowed : Allowed (rest_of place known later (after_block place at b) bs) bs
     pub text : (rest_of place known n at (b ∷ bs)).spelling (b ∷ bs) ≡ ((block place known at).spelling b ++ flag.spelling (is_empty bs)) ++ (rest_of place known later (after_block place at b) bs).spelling bs
 
-  next : (n : ℕ) (at : At) (b : Block) (bs : List Block) → Allowed (rest_of place known n at (b ∷ bs)) (b ∷ bs) → Next n at b bs
+  next : (n : ℕ) (at : BlockContext) (b : Block) (bs : List Block) → Allowed (rest_of place known n at (b ∷ bs)) (b ∷ bs) → Next n at b bs
   unfolding up_to_last never item part chosen
   next zero at b bs a = absurd a.fits
   next (suc n) at b bs a = record {
@@ -71,18 +66,18 @@ left_blocks hs cs i start = nested (drop i hs) (drop start cs)
 pub record Going (place : Place) (known : Known) (first now : Option State) (hs : List BlockHead) (cs : List FrameCode) (i start : ℕ) (old w text : List Bool) : Type 0 where
   pub turns : ℕ
   pub due : Bool
-  pub so_far : SoFar old w ((rest_of place known turns (at_of now start due) (left_blocks hs cs i start)).spelling (left_blocks hs cs i start)) text
-  pub allowed : Allowed (rest_of place known turns (at_of now start due) (left_blocks hs cs i start)) (left_blocks hs cs i start)
+  pub so_far : SoFar old w ((rest_of place known turns (context_of now start due) (left_blocks hs cs i start)).spelling (left_blocks hs cs i start)) text
+  pub allowed : Allowed (rest_of place known turns (context_of now start due) (left_blocks hs cs i start)) (left_blocks hs cs i start)
   pub force_is : force_after place now (drop i hs) ≡ force_after place first hs
-  pub state_is : IfSome now (λ s. FitsPlace place.format place.unit_frames s)
+  pub state_is : ForceFits place now
   pub within : start ≤ length cs
 
 pub going_begins : (place : Place) (known : Known) (n : ℕ) (due : Bool) (force : Option State) (hs : List BlockHead) (cs : List FrameCode) (old : List Bool) → length old ≤ room
-    → IfSome force (λ s. FitsPlace place.format place.unit_frames s) → Allowed (blocks_from place known n (at_of force 0 due)) (nested hs cs)
-    → Going place known force force hs cs 0 0 old old ((blocks_from place known n (at_of force 0 due)).spelling (nested hs cs))
+    → ForceFits place force → Allowed (blocks_from place known n (context_of force 0 due)) (nested hs cs)
+    → Going place known force force hs cs 0 0 old old ((blocks_from place known n (context_of force 0 due)).spelling (nested hs cs))
 going_begins place known n due force hs cs old le lawful a =
-    let start = rest_starts place known n (at_of force 0 due) (nested hs cs) a in
-    let text = (blocks_from place known n (at_of force 0 due)).spelling (nested hs cs) in
+    let start = rest_starts place known n (context_of force 0 due) (nested hs cs) a in
+    let text = (blocks_from place known n (context_of force 0 due)).spelling (nested hs cs) in
     record {
       turns = n;
       due = due;
@@ -105,43 +100,43 @@ module _ (place : Place) (known : Known) (first now : Option State) (hs : List B
     unfolding nested
     blocks_left = ap (λ (xs : List BlockHead). nested xs (drop start cs)) heads_left ∙ ap (λ (ys : List FrameCode). block_here ∷ nested (drop (i + 1) hs) ys) (drop-drop h.frames start cs)
 
-    here : Next place known g.turns (at_of now start g.due) block_here (left_blocks hs cs (i + 1) (start + h.frames))
-    here = next place known g.turns (at_of now start g.due) block_here (left_blocks hs cs (i + 1) (start + h.frames)) (subst (λ (bs : List Block). Allowed (rest_of place known g.turns (at_of now start g.due) bs) bs) blocks_left g.allowed)
+    here : Next place known g.turns (context_of now start g.due) block_here (left_blocks hs cs (i + 1) (start + h.frames))
+    here = next place known g.turns (context_of now start g.due) block_here (left_blocks hs cs (i + 1) (start + h.frames)) (subst (λ (bs : List Block). Allowed (rest_of place known g.turns (context_of now start g.due) bs) bs) blocks_left g.allowed)
 
-    pub block_allowed : Allowed (block place known (at_of now start g.due)) block_here
+    pub block_allowed : Allowed (block place known (context_of now start g.due)) block_here
     block_allowed = here.first
 
     pub codes_there : start + h.frames ≤ length cs
-    codes_there = omega (arith, g.within, block_fits place known (at_of now start g.due) block_here here.first.fits, length-take h.frames (drop start cs), length-drop start cs)
+    codes_there = omega (arith, g.within, block_fits place known (context_of now start g.due) block_here here.first.fits, length-take h.frames (drop start cs), length-drop start cs)
 
     -- the bit behind it
     last_is : is_empty (left_blocks hs cs (i + 1) (start + h.frames)) ≡ eqb (i + 1) (length hs)
     last_is = empty_nested (drop (i + 1) hs) (drop (start + h.frames) cs) ∙ empty_drop (i + 1) hs (omega arith)
 
     abbrev pub text_here : List Bool
-    text_here = (block place known (at_of now start g.due)).spelling block_here ++ flag.spelling (eqb (i + 1) (length hs))
+    text_here = (block place known (context_of now start g.due)).spelling block_here ++ flag.spelling (eqb (i + 1) (length hs))
 
     abbrev later_text : List Bool
-    later_text = let bs = left_blocks hs cs (i + 1) (start + h.frames) in (rest_of place known here.later (after_block place (at_of now start g.due) block_here) bs).spelling bs
+    later_text = let bs = left_blocks hs cs (i + 1) (start + h.frames) in (rest_of place known here.later (after_block place (context_of now start g.due) block_here) bs).spelling bs
 
     so_far_here : SoFar old w (text_here ++ later_text) text
     so_far_here =
         let bs = left_blocks hs cs (i + 1) (start + h.frames) in
-        let whole = ap (λ (xs : List Block). (rest_of place known g.turns (at_of now start g.due) xs).spelling xs) blocks_left ∙ here.text ∙ ap (λ (b : Bool). ((block place known (at_of now start g.due)).spelling block_here ++ flag.spelling b) ++ later_text) last_is in
+        let whole = ap (λ (xs : List Block). (rest_of place known g.turns (context_of now start g.due) xs).spelling xs) blocks_left ∙ here.text ∙ ap (λ (b : Bool). ((block place known (context_of now start g.due)).spelling block_here ++ flag.spelling b) ++ later_text) last_is in
         subst (λ (t : List Bool). SoFar old w t text) whole g.so_far
 
     pub going_stops : (v : List Bool) → Filled w v text_here → Filled old v text
     going_stops v f = so_far_stops old w v text_here later_text text so_far_here f
 
-    pub going_goes_on : (v : List Bool) (after : Option State) → after ≡ after_head place now h → IfSome after (λ s. FitsPlace place.format place.unit_frames s) → Wrote w v text_here → Going place known first after hs cs (i + 1) (start + h.frames) old v text
+    pub going_goes_on : (v : List Bool) (after : Option State) → after ≡ after_head place now h → ForceFits place after → Wrote w v text_here → Going place known first after hs cs (i + 1) (start + h.frames) old v text
     going_goes_on v after e lawful wrote =
         let bs = left_blocks hs cs (i + 1) (start + h.frames) in
-        let at-then : after_block place (at_of now start g.due) block_here ≡ at_of after (start + h.frames) false = ap (λ (s : Option State). at_of s (start + h.frames) false) (sym e) in
+        let at-then : after_block place (context_of now start g.due) block_here ≡ context_of after (start + h.frames) false = ap (λ (s : Option State). context_of s (start + h.frames) false) (sym e) in
         record {
           turns = here.later;
           due = false;
-          so_far = subst (λ (a : At). SoFar old v ((rest_of place known here.later a bs).spelling bs) text) at-then (so_far_goes_on old w v text_here later_text text so_far_here wrote);
-          allowed = subst (λ (a : At). Allowed (rest_of place known here.later a bs) bs) at-then here.allowed;
+          so_far = subst (λ (a : BlockContext). SoFar old v ((rest_of place known here.later a bs).spelling bs) text) at-then (so_far_goes_on old w v text_here later_text text so_far_here wrote);
+          allowed = subst (λ (a : BlockContext). Allowed (rest_of place known here.later a bs) bs) at-then here.allowed;
           force_is = ap (λ (s : Option State). force_after place s (drop (i + 1) hs)) e ∙ sym (ap (force_after place now) heads_left) ∙ g.force_is;
           state_is = lawful;
           within = codes_there;
@@ -154,7 +149,7 @@ module _ (place : Place) (known : Known) (first now : Option State) (hs : List B
 
     pub going_ends : Wrote old w text
     unfolding chosen made
-    going_ends = so_far_ends old w text (subst (λ (bs : List Block). SoFar old w ((rest_of place known g.turns (at_of now start g.due) bs).spelling bs) text) none_left g.so_far)
+    going_ends = so_far_ends old w text (subst (λ (bs : List Block). SoFar old w ((rest_of place known g.turns (context_of now start g.due) bs).spelling bs) text) none_left g.so_far)
 
     pub force_ends : now ≡ force_after place first hs
     force_ends = sym (ap (force_after place now) (drop_all i hs le)) ∙ g.force_is

@@ -9,29 +9,27 @@ use Rattle.mlp_bits.specs.Checks.{segment_parity_of, check8_of}
 use Rattle.mlp_bits.proofs.BitLists.{bits_of-cons, length-bits_of, length-bits}
 use Rattle.mlp_bits.proofs.Words.{bits_of-append}
 use Rattle.mlp_layout.specs.Layout.{number_of, spelling_as, MeetsAs}
-use Rattle.mlp_layout.specs.Combined.{up_to_last}
 use Rattle.mlp_layout.specs.Tails.{part_tail, placed, ending, whole_text, judged_at_end, checked_first, chosen_whole}
 use Rattle.mlp_layout.specs.Allowed.{Allowed}
 use Rattle.mlp_params.specs.declared.state.State.{State}
 use Rattle.mlp_substream.specs.declared.known.Place.{Place}
 use Rattle.mlp_substream.specs.declared.known.Known.{Known}
 use Rattle.mlp_substream.specs.Checks.{parity_of, check_of}
-use Rattle.mlp_substream.specs.Blocks.{At, block, after_block}
-use Rattle.mlp_substream.specs.Segment.{nested, terminator, padding_width, most_blocks, segment_tail, segment_text, segment}
+use Rattle.mlp_substream.specs.Blocks.{BlockContext, first_context}
+use Rattle.mlp_substream.specs.Segment.{nested, terminator, padding_width, most_blocks, segment_tail, segment_text, segment, blocks_from}
 use Rattle.mlp_substream.proofs.CheckLaws.{AreBytes, bytes_of-bits}
 use Rattle.mlp_substream.proofs.SegmentLaws.{terminator_long}
-use Rattle.mlp_substream.proofs.ReadingLaws.{at_of}
 
 -- ---- what stands before the checks
 
-module _ (place : Place) (known : Known) (at : At) (checked : Bool) (s : Segment) where
+module _ (place : Place) (known : Known) (at : BlockContext) (checked : Bool) (s : Segment) where
   abbrev pub blocks_text : List Bool
-  blocks_text = (up_to_last (block place known) (after_block place) rule.BlockOverrun most_blocks at).spelling (nested s.blocks.items s.codes.items)
+  blocks_text = (blocks_from place known most_blocks at).spelling (nested s.blocks.items s.codes.items)
 
   abbrev pub end_text : ℕ → List Bool
   end_text here = bits (padding_width here) s.padding ++ spelling_as (terminator place.format).spelling s.terminator
 
-  pub tail_blocks : (segment_tail place known at checked).Fits 0 s → (segment_tail place known at checked).Meets 0 s → Allowed (up_to_last (block place known) (after_block place) rule.BlockOverrun most_blocks at) (nested s.blocks.items s.codes.items)
+  pub tail_blocks : (segment_tail place known at checked).Fits 0 s → (segment_tail place known at checked).Meets 0 s → Allowed (blocks_from place known most_blocks at) (nested s.blocks.items s.codes.items)
   unfolding segment_tail part_tail
   tail_blocks fits meets = record { fits = fits.0; meets = meets.0 }
 
@@ -62,12 +60,12 @@ unfolding bits_of
 two_bytes p q = bits_of-cons p (q ∷ []) ∙ ap (λ (t : List Bool). bits 8 p ++ t) (bits_of-cons q [] ∙ append-nil (bits 8 q))
 
 module _ (place : Place) (known : Known) (force : Option State) (s : Segment) where
-  pub has_tail : (checked : Bool) → (segment place known force checked).Fits s → (segment_tail place known (at_of force 0 place.major) checked).Fits 0 s
+  pub has_tail : (checked : Bool) → (segment place known force checked).Fits s → (segment_tail place known (first_context place force) checked).Fits 0 s
   unfolding segment chosen_whole checked_first segment_text judged_at_end whole_text
   has_tail true fits = fits
   has_tail false fits = fits
 
-  pub meets_tail : (checked : Bool) → (segment place known force checked).Meets s → (segment_tail place known (at_of force 0 place.major) checked).Meets 0 s
+  pub meets_tail : (checked : Bool) → (segment place known force checked).Meets s → (segment_tail place known (first_context place force) checked).Meets 0 s
   unfolding segment chosen_whole checked_first segment_text judged_at_end whole_text
   meets_tail true meets = meets.0
   meets_tail false meets = meets.0
@@ -76,14 +74,14 @@ module _ (place : Place) (known : Known) (force : Option State) (s : Segment) wh
   with_checks true text = text ++ (bits 8 (parity_of text) ++ bits 8 (check_of text))
   with_checks false text = text
 
-  pub segment_spelling : (checked : Bool) → (segment place known force checked).spelling s ≡ with_checks checked ((segment_tail place known (at_of force 0 place.major) checked).spelling 0 s)
+  pub segment_spelling : (checked : Bool) → (segment place known force checked).spelling s ≡ with_checks checked ((segment_tail place known (first_context place force) checked).spelling 0 s)
   unfolding segment chosen_whole checked_first segment_text judged_at_end whole_text
   segment_spelling true = refl
   segment_spelling false = refl
 
   -- checks make it longer
-  pub segment_longer : (checked : Bool) → length ((segment_tail place known (at_of force 0 place.major) checked).spelling 0 s) ≤ length ((segment place known force checked).spelling s)
-  segment_longer checked = let e = ap (λ (t : List Bool). length t) (segment_spelling checked) in omega (arith, e, longer checked ((segment_tail place known (at_of force 0 place.major) checked).spelling 0 s))
+  pub segment_longer : (checked : Bool) → length ((segment_tail place known (first_context place force) checked).spelling 0 s) ≤ length ((segment place known force checked).spelling s)
+  segment_longer checked = let e = ap (λ (t : List Bool). length t) (segment_spelling checked) in omega (arith, e, longer checked ((segment_tail place known (first_context place force) checked).spelling 0 s))
     where
       longer : (checked : Bool) (text : List Bool) → length text ≤ length (with_checks checked text)
       longer true text = omega (arith, length-append text (bits 8 (parity_of text) ++ bits 8 (check_of text)))
@@ -100,7 +98,7 @@ module _ (place : Place) (known : Known) (force : Option State) (s : Segment) wh
       let same : bits 8 (segment_parity_of bytes) ++ bits 8 (check8_of bytes) ≡ bits 8 (parity_of (bits_of bytes)) ++ bits 8 (check_of (bits_of bytes)) = ap (λ (b : List ℕ). bits 8 (segment_parity_of b) ++ bits 8 (check8_of b)) (sym (bytes_of-bits bytes small)) in
       bits_of-append bytes (segment_parity_of bytes ∷ check8_of bytes ∷ []) ∙ ap (λ (t : List Bool). bits_of bytes ++ t) (two ∙ same)
 
-  module _ (checked : Bool) (bytes : List ℕ) (small : AreBytes bytes) (text_is : bits_of bytes ≡ (segment_tail place known (at_of force 0 place.major) checked).spelling 0 s) where
+  module _ (checked : Bool) (bytes : List ℕ) (small : AreBytes bytes) (text_is : bits_of bytes ≡ (segment_tail place known (first_context place force) checked).spelling 0 s) where
     pub segment_bits : bits_of (bytes ++ checks_of checked bytes) ≡ (segment place known force checked).spelling s
     segment_bits = written_bits checked bytes small ∙ ap (with_checks checked) text_is ∙ sym (segment_spelling checked)
 

@@ -16,7 +16,7 @@ use Rattle.mlp_residual.specs.Frames.{frames_of}
 use Rattle.mlp_substream.specs.declared.known.Place.{Place}
 use Rattle.mlp_substream.specs.declared.known.Known.{Known}
 use Rattle.mlp_substream.specs.Restarts.{flags, judged_restart}
-use Rattle.mlp_substream.specs.Blocks.{against, restarted, after_head, steps_fit_in, block_size_in, behind_flags, head, At, Block, block}
+use Rattle.mlp_substream.specs.Blocks.{against, restarted, after_head, steps_fit_in, block_size_in, behind_flags, head, BlockContext, Block, block}
 
 -- ---- flags and restarts
 
@@ -88,13 +88,13 @@ head_text place known due force h =
 
 -- ---- a block
 
-pub record BlockParts (place : Place) (known : Known) (at : At) (b : Block) : Type 0 where
+pub record BlockParts (place : Place) (known : Known) (at : BlockContext) (b : Block) : Type 0 where
   pub head : Allowed (head place known at.due at.force) b.head
   pub steps : IsTrue (steps_fit_in (after_head place at.force b.head))
   pub few : IsTrue (nat_le (at.so_far + b.head.frames) place.unit_frames)
   pub frames : (against (after_head place at.force b.head) (λ s. frames_of s b.head.frames)).Fits b.frames
 
-pub block_parts : (place : Place) (known : Known) (at : At) (b : Block) → Allowed (block place known at) b → BlockParts place known at b
+pub block_parts : (place : Place) (known : Known) (at : BlockContext) (b : Block) → Allowed (block place known at) b → BlockParts place known at b
 unfolding block part tested made
 block_parts place known at b a = record {
   head = record { fits = a.fits.0; meets = a.meets.0 };
@@ -103,6 +103,6 @@ block_parts place known at b a = record {
   frames = a.fits.1.0;
 }
 
-pub block_text : (place : Place) (known : Known) (at : At) (b : Block) → (head place known at.due at.force).spelling b.head ++ (against (after_head place at.force b.head) (λ s. frames_of s b.head.frames)).spelling b.frames ≡ (block place known at).spelling b
+pub block_text : (place : Place) (known : Known) (at : BlockContext) (b : Block) → (head place known at.due at.force).spelling b.head ++ (against (after_head place at.force b.head) (λ s. frames_of s b.head.frames)).spelling b.frames ≡ (block place known at).spelling b
 unfolding block part tested made
 block_text place known at b = ap (λ (t : List Bool). (head place known at.due at.force).spelling b.head ++ t) (sym (append-nil ((against (after_head place at.force b.head) (λ s. frames_of s b.head.frames)).spelling b.frames)))

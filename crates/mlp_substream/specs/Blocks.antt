@@ -1,5 +1,5 @@
 -- The blocks of a segment, each against what is in force behind those before it.
-use Rattle.std.specs.Prelude.{◌≡◌, ◌≤◌, ℕ, ◌+◌, nat_le, Bool, true, false, List, [], ◌∷◌, Option, Some, None, is_some, option_map}
+use Rattle.std.specs.Prelude.{◌≡◌, ◌≤◌, ℕ, ◌+◌, nat_le, Bool, true, false, List, [], ◌∷◌, Option, Some, None, is_some, option_map, IfSome}
 use Rattle.mlp_syntax.specs.declared.fault.Field.TheVariants as rule
 use Rattle.mlp_syntax.specs.declared.major.Kind.{Kind}
 use Rattle.mlp_syntax.specs.declared.restart.Restart.{Restart}
@@ -56,10 +56,17 @@ steps_fit_in (Some s) = steps_fit s
 -- ---- a block
 
 -- where a block stands: what is in force, the frames before it, and whether a restart is due
-pub record At : Type 0 where
+pub record BlockContext : Type 0 where
   pub force : Option State
   pub so_far : ℕ
   pub due : Bool
+
+abbrev pub context_of : Option State → ℕ → Bool → BlockContext
+context_of force so_far due = record { force = force; so_far = so_far; due = due }
+
+-- where the first block of a segment stands
+abbrev pub first_context : Place → Option State → BlockContext
+first_context place force = context_of force 0 place.major
 
 -- its head, and its frames
 pub record Block : Type 0 where
@@ -76,7 +83,7 @@ behind_flags place known force f =
 unfoldable pub head : Place → Known → Bool → Option State → Layout BlockHead
 head place known due force = part (flags due) (λ h. (is_some h.params, is_some h.restart)) (behind_flags place known force)
 
-unfoldable pub block : Place → Known → At → Layout Block
+unfoldable pub block : Place → Known → BlockContext → Layout Block
 block place known at =
     part (head place known at.due at.force) (λ b. b.head) (λ h.
     tested rule.StepTooLarge (steps_fit_in (after_head place at.force h))
@@ -84,8 +91,8 @@ block place known at =
     (part (against (after_head place at.force h) (λ s. frames_of s h.frames)) (λ b. b.frames) (λ codes.
     made (record { head = h; frames = codes })))))
 
-abbrev pub after_block : Place → At → Block → At
-after_block place at b = record { force = after_head place at.force b.head; so_far = at.so_far + b.head.frames; due = false }
+abbrev pub after_block : Place → BlockContext → Block → BlockContext
+after_block place at b = context_of (after_head place at.force b.head) (at.so_far + b.head.frames) false
 
 -- ---- what can be in force in a stream of this kind with so many frames in a unit
 
@@ -93,6 +100,10 @@ pub record FitsPlace (format : Kind) (unit_frames : ℕ) (s : State) : Type 0 wh
   pub lawful : IsState s
   pub format_is : s.format ≡ format
   pub frames_are : s.unit_frames ≡ unit_frames
+
+-- what is in force, if anything is, fits the place
+abbrev pub ForceFits : Place → Option State → Type 0
+ForceFits place force = IfSome force (λ s. FitsPlace place.format place.unit_frames s)
 
 -- a unit has frames for a block, and at most 160
 pub record IsPlace (place : Place) : Type 0 where

@@ -2,3 +2,5 @@ pub mod Checks
 pub mod Restarts
 pub mod Blocks
 pub mod Segment
+pub mod Playable
+pub mod Timings

@@ -1,11 +1,11 @@
 -- Where a restart stands, and the rules on it that other segments and other units decide.
-use Rattle.std.specs.Prelude.{ℕ, zero, suc, ◌+◌, ◌==◌, nat_le, ◌&&◌, ◌||◌, not, Bool, true, false, List, [], ◌∷◌, Option, Some, None}
+use Rattle.std.specs.Prelude.{◌≡◌, ℕ, zero, suc, ◌+◌, ◌==◌, nat_le, ◌&&◌, ◌||◌, not, Bool, true, false, List, [], ◌∷◌, Option, Some, None}
 use Rattle.mlp_syntax.specs.declared.fault.Field.TheVariants as rule
 use Rattle.mlp_syntax.specs.declared.major.Kind.{Kind}
 use Rattle.mlp_syntax.specs.declared.restart.Restart.{Restart}
 use Rattle.mlp_bits.specs.Bits.{bit}
 use Rattle.mlp_layout.specs.Layout.{Layout, Rule, part, made}
-use Rattle.mlp_layout.specs.Combined.{must, must_at, under, flag, chosen}
+use Rattle.mlp_layout.specs.Combined.{must, must_at, under, first_fault, flag, chosen}
 use Rattle.mlp_params.specs.RestartHeader.{restart}
 use Rattle.mlp_substream.specs.declared.known.Known.{Known}
 
@@ -42,6 +42,10 @@ restart_rules known =
     must_at 38 rule.ChannelsChanged (λ r. agrees known.max_matrix r.max_matrix) ∷
     must_at 38 rule.Uncovered (λ r. covers known.covered r) ∷
     must_at 89 rule.LosslessCheck (λ r. agrees known.lossless r.lossless) ∷ []
+
+-- all of them hold of a restart
+abbrev pub RestartHolds : Known → Restart → Type 0
+RestartHolds known r = first_fault (restart_rules known) r ≡ None
 
 unfoldable pub judged_restart : Known → Kind → Layout Restart
 judged_restart known format = under (restart_rules known) (restart format)

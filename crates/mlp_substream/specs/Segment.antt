@@ -1,5 +1,6 @@
 -- A segment: blocks up to the last one, padding, a terminator, and two bytes of checks.
-use Rattle.std.specs.Prelude.{ℕ, ◌-◌, ◌%◌, ◌==◌, ◌&&◌, ◌||◌, not, Bool, true, false, List, [], ◌∷◌, ◌++◌, length, take, drop, Option, Some, None, is_some, if◌then◌else◌}
+use Rattle.std.specs.Prelude.{ℕ, ◌-◌, ◌%◌, ◌==◌, ◌&&◌, ◌||◌, not, Bool, true, false, List, [], ◌∷◌, ◌++◌, length, take, drop, Option, Some, None, is_some, IfSome, IsTrue, if◌then◌else◌}
+use Rattle.std.specs.List.{All}
 use Rattle.mlp_syntax.specs.declared.major.Kind.{Kind}
 use Rattle.mlp_syntax.specs.declared.major.Kind.TheVariants.{Fbb, Fba}
 use Rattle.mlp_syntax.specs.declared.fault.Field.{Field}
@@ -15,7 +16,8 @@ use Rattle.mlp_substream.specs.declared.known.Place.{Place}
 use Rattle.mlp_substream.specs.declared.known.Ending.{Ending}
 use Rattle.mlp_substream.specs.declared.known.Known.{Known}
 use Rattle.mlp_substream.specs.Checks.{parity_of, check_of}
-use Rattle.mlp_substream.specs.Blocks.{At, Block, block, after_block}
+use Rattle.mlp_substream.specs.Restarts.{RestartHolds}
+use Rattle.mlp_substream.specs.Blocks.{BlockContext, first_context, Block, block, after_block}
 
 -- ---- the record has the frames of all blocks in one list
 
@@ -73,10 +75,14 @@ end_rules known unit all s = end_fault (same_end known.first s) (frames_fit know
 abbrev pub most_blocks : ℕ
 most_blocks = 21
 
+-- so many blocks at most, up to the last one
+abbrev pub blocks_from : Place → Known → ℕ → BlockContext → Layout (List Block)
+blocks_from place known n at = up_to_last (block place known) (after_block place) rule.BlockOverrun n at
+
 module _ (place : Place) where
-  unfoldable pub segment_tail : Known → At → Bool → Tail Segment
+  unfoldable pub segment_tail : Known → BlockContext → Bool → Tail Segment
   segment_tail known at checked =
-      part_tail (up_to_last (block place known) (after_block place) rule.BlockOverrun most_blocks at) (λ s. nested s.blocks.items s.codes.items) (λ bs.
+      part_tail (blocks_from place known most_blocks at) (λ s. nested s.blocks.items s.codes.items) (λ bs.
       placed (λ here.
       part_tail (number_of (padding_width here)) (λ s. s.padding) (λ padding.
       ending rule.SegmentEnd 32 (terminator place.format) (λ s. s.terminator) (λ terminator.
@@ -84,7 +90,7 @@ module _ (place : Place) where
 
   -- the fields, and the rules at the end
   unfoldable pub segment_text : Known → Option State → Bool → Whole Segment
-  segment_text known force checked = judged_at_end (end_rules known place.unit_frames) (whole_text (segment_tail known (record { force = force; so_far = 0; due = place.major }) checked))
+  segment_text known force checked = judged_at_end (end_rules known place.unit_frames) (whole_text (segment_tail known (first_context place force) checked))
 
   -- a segment against what is in force at its start; checks are tried before its fields are read
   unfoldable pub segment : Known → Option State → Bool → Whole Segment
@@ -93,3 +99,14 @@ module _ (place : Place) where
 -- nothing is known from elsewhere
 abbrev pub unknown : Known
 unknown = record { max_matrix = None; covered = None; lossless = None; first = None }
+
+-- a value has a spelling and meets the rules
+pub record IsAllowed {R : Type 0} (w : Whole R) (r : R) : Type 0 where
+  pub fits : w.Fits r
+  pub meets : w.Meets r
+
+-- a segment is as it is known from elsewhere, where it is known
+pub record IsAsKnown (place : Place) (known : Known) (s : Segment) : Type 0 where
+  pub restarts : All (λ h. IfSome h.restart (λ r. RestartHolds known r)) s.blocks.items
+  pub end : IsTrue (same_end known.first s)
+  pub frames : IsTrue (frames_fit known.first place.unit_frames s)

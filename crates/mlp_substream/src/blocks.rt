@@ -3,11 +3,10 @@ ghost use Rattle.std.specs.Prelude.{◌≡◌, ◌+◌, ◌≤◌, ◌<◌, ◌+
 ghost use Rattle.arrayvec.specs.ArrayVec.{array_vec_len};
 ghost use Rattle.mlp_syntax.specs.declared.segment.FrameCode.{FrameCode};
 ghost use Rattle.mlp_syntax.specs.declared.fault.Field.TheVariants.{BlockOverrun};
-ghost use Rattle.mlp_layout.specs.Combined.{up_to_last};
 ghost use Rattle.mlp_params.specs.States.{IsState};
 ghost use Rattle.mlp_residual.specs.Frames.{frames_of, GivesBehind};
-ghost use Rattle.mlp_substream.specs.Blocks.{against, steps_fit_in, after_head, block, after_block, force_after, At, Block, FitsPlace, IsPlace};
-ghost use Rattle.mlp_substream.specs.Segment.{heads_of, codes_of, most_blocks};
+ghost use Rattle.mlp_substream.specs.Blocks.{against, steps_fit_in, after_head, block, force_after, Block, IsPlace, context_of, first_context, ForceFits};
+ghost use Rattle.mlp_substream.specs.Segment.{heads_of, codes_of, most_blocks, blocks_from};
 
 use crate::heads::read_head;
 use crate::known::{Known, Place};
@@ -62,16 +61,16 @@ fn read_block(
     codes: &mut ArrayVec<FrameCode, 160>,
 ) -> Result<(), Broken>
     requires place { IsPlace place.now }
-    requires state { IfSome state.old (λ s. FitsPlace place.now.format place.now.unit_frames s) }
+    requires state { ForceFits place.now state.old }
     requires first { first ≤ length codes.old.items }
     requires few { first ≤ place.now.unit_frames }
     ensures read { MatchResult result
-        (λ _. (fs : List FrameCode) × ((block place.now known.now (record { force = state.old; so_far = first; due = due })).read r.old.all r.old.place ≡ Ok (record { head = head.new; frames = fs }, r.new.place))
+        (λ _. (fs : List FrameCode) × ((block place.now known.now (context_of state.old first due)).read r.old.all r.old.place ≡ Ok (record { head = head.new; frames = fs }, r.new.place))
         × (take (first + head.new.frames) codes.new.items ≡ take first codes.old.items ++ fs))
-        (λ e. (block place.now known.now (record { force = state.old; so_far = first; due = due })).read r.old.all r.old.place ≡ Err e) }
+        (λ e. (block place.now known.now (context_of state.old first due)).read r.old.all r.old.place ≡ Err e) }
     ensures moved { OnOk result ((r.new.all ≡ r.old.all) × (r.old.place ≤ r.new.place)) }
     ensures force { OnOk result (state.new ≡ after_head place.now state.old head.new) }
-    ensures state { OnOk result (IfSome state.new (λ s. FitsPlace place.now.format place.now.unit_frames s)) }
+    ensures state { OnOk result (ForceFits place.now state.new) }
     ensures count { OnOk result ((first + head.new.frames ≤ length codes.new.items) × (8 ≤ head.new.frames) × (first + head.new.frames ≤ place.now.unit_frames)) }
 {
     read_head(place, known, due, state, r, head)?;
@@ -99,25 +98,25 @@ fn read_block_behind(
     out: &mut Segment,
 ) -> Result<usize, Broken>
     requires place { IsPlace place.now }
-    requires state { IfSome state.old (λ s. FitsPlace place.now.format place.now.unit_frames s) }
+    requires state { ForceFits place.now state.old }
     requires room { count < 20 }
     requires heads { count ≤ length out.old.blocks.items }
     requires first { first ≤ length out.old.codes.items }
     requires few { first ≤ place.now.unit_frames }
     ensures read { MatchResult result
-        (λ frames. (h : BlockHead) × (fs : List FrameCode) × ((block place.now known.now (record { force = state.old; so_far = first; due = due })).read r.old.all r.old.place ≡ Ok (record { head = h; frames = fs }, r.new.place))
+        (λ frames. (h : BlockHead) × (fs : List FrameCode) × ((block place.now known.now (context_of state.old first due)).read r.old.all r.old.place ≡ Ok (record { head = h; frames = fs }, r.new.place))
         × (take (count + 1) out.new.blocks.items ≡ take count out.old.blocks.items ++ h ∷ [])
         × (take frames out.new.codes.items ≡ take first out.old.codes.items ++ fs)
         × (state.new ≡ after_head place.now state.old h)
         × (frames ≡ first + h.frames)
         × (8 ≤ h.frames))
-        (λ e. (block place.now known.now (record { force = state.old; so_far = first; due = due })).read r.old.all r.old.place ≡ Err e) }
+        (λ e. (block place.now known.now (context_of state.old first due)).read r.old.all r.old.place ≡ Err e) }
     ensures heads { OnOk result (count + 1 ≤ length out.new.blocks.items) }
     ensures frames { IfOk result (λ frames. frames ≤ length out.new.codes.items) }
     ensures few { IfOk result (λ frames. frames ≤ place.now.unit_frames) }
     ensures rest { out.new ≡ record out.old { blocks = out.new.blocks; codes = out.new.codes } }
     ensures moved { OnOk result ((r.new.all ≡ r.old.all) × (r.old.place ≤ r.new.place)) }
-    ensures state { OnOk result (IfSome state.new (λ s. FitsPlace place.now.format place.now.unit_frames s)) }
+    ensures state { OnOk result (ForceFits place.now state.new) }
 {
     if count == out.blocks.len() {
         out.blocks.push(BlockHead::default());
@@ -138,11 +137,11 @@ fn read_beyond(
     codes: &mut ArrayVec<FrameCode, 160>,
 ) -> Result<(), Broken>
     requires place { IsPlace place.now }
-    requires state { IfSome state.old (λ s. FitsPlace place.now.format place.now.unit_frames s) }
+    requires state { ForceFits place.now state.old }
     requires first { first ≤ length codes.old.items }
     requires few { first ≤ place.now.unit_frames }
     requires full { place.now.unit_frames < first + 8 }
-    ensures read { IfErr result (λ e. (block place.now known.now (record { force = state.old; so_far = first; due = due })).read r.old.all r.old.place ≡ Err e) }
+    ensures read { IfErr result (λ e. (block place.now known.now (context_of state.old first due)).read r.old.all r.old.place ≡ Err e) }
     ensures fails { IsErr result }
 {
     let mut head = BlockHead::default();
@@ -158,14 +157,14 @@ pub fn read_blocks(
     out: &mut Segment,
 ) -> Result<(), Broken>
     requires place { IsPlace place.now }
-    requires state { IfSome state.old (λ s. FitsPlace place.now.format place.now.unit_frames s) }
+    requires state { ForceFits place.now state.old }
     ensures read { MatchResult result
-        (λ _. (bs : List Block) × ((up_to_last (block place.now known.now) (after_block place.now) BlockOverrun most_blocks (record { force = state.old; so_far = 0; due = place.now.major })).read r.old.all r.old.place ≡ Ok (bs, r.new.place))
+        (λ _. (bs : List Block) × ((blocks_from place.now known.now most_blocks (first_context place.now state.old)).read r.old.all r.old.place ≡ Ok (bs, r.new.place))
         × (out.new ≡ record out.old { blocks = record { items = heads_of bs }; codes = record { items = codes_of bs } })
         × (state.new ≡ force_after place.now state.old (heads_of bs)))
-        (λ e. (up_to_last (block place.now known.now) (after_block place.now) BlockOverrun most_blocks (record { force = state.old; so_far = 0; due = place.now.major })).read r.old.all r.old.place ≡ Err e) }
+        (λ e. (blocks_from place.now known.now most_blocks (first_context place.now state.old)).read r.old.all r.old.place ≡ Err e) }
     ensures moved { OnOk result ((r.new.all ≡ r.old.all) × (r.old.place ≤ r.new.place)) }
-    ensures state { OnOk result (IfSome state.new (λ s. FitsPlace place.now.format place.now.unit_frames s)) }
+    ensures state { OnOk result (ForceFits place.now state.new) }
 {
     let mut due = place.major;
     let mut frames = 0;

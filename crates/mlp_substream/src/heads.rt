@@ -7,7 +7,8 @@ ghost use Rattle.mlp_params.specs.RestartHeader.{restart};
 ghost use Rattle.mlp_params.specs.Parameters.{params};
 ghost use Rattle.mlp_params.specs.States.{IsState};
 ghost use Rattle.mlp_substream.specs.Restarts.{judged_restart};
-ghost use Rattle.mlp_substream.specs.Blocks.{restarted, given, after_head, against, block_size_in, head, FitsPlace, IsPlace};
+ghost use Rattle.mlp_substream.specs.Playable.{HeadFits};
+ghost use Rattle.mlp_substream.specs.Blocks.{restarted, given, after_head, against, block_size_in, head, IsPlace, ForceFits};
 
 use crate::known::{Known, Place};
 use crate::restarts::{read_flags, read_judged};
@@ -38,9 +39,9 @@ fn read_restart_if(
 pub fn restart_at(place: &Place, header: &Option<Restart>, state: &mut Option<State>)
     requires place { IsPlace place.now }
     requires header { IfSome header.now (λ h. Allowed (restart place.now.format) h) }
-    requires state { IfSome state.old (λ s. FitsPlace place.now.format place.now.unit_frames s) }
+    requires state { ForceFits place.now state.old }
     ensures value { state.new ≡ restarted place.now state.old header.now }
-    ensures state { IfSome state.new (λ s. FitsPlace place.now.format place.now.unit_frames s) }
+    ensures state { ForceFits place.now state.new }
 {
     let Some(header) = header else {
         return;
@@ -79,9 +80,9 @@ fn read_params_if(
 /// Puts parameters in force.
 pub fn apply_if(place: &Place, written: &Option<Params>, state: &mut Option<State>)
     requires written { IfSome written.now (λ p. IfSome state.old (λ s. Allowed (params s) p)) }
-    requires state { IfSome state.old (λ s. FitsPlace place.now.format place.now.unit_frames s) }
+    requires state { ForceFits place.now state.old }
     ensures value { state.new ≡ option_map (given written.now) state.old }
-    ensures state { IfSome state.new (λ s. FitsPlace place.now.format place.now.unit_frames s) }
+    ensures state { ForceFits place.now state.new }
 {
     if let (Some(params), Some(state)) = (written, state) {
         apply(state, params);
@@ -108,11 +109,11 @@ pub fn read_head(
     out: &mut BlockHead,
 ) -> Result<(), Broken>
     requires place { IsPlace place.now }
-    requires state { IfSome state.old (λ s. FitsPlace place.now.format place.now.unit_frames s) }
+    requires state { ForceFits place.now state.old }
     ensures read { Gives (λ _. out.new) r.old r.new result ((head place.now known.now due state.old).read r.old.all r.old.place) }
     ensures force { OnOk result (state.new ≡ after_head place.now state.old out.new) }
     ensures frames { OnOk result (out.new.frames ≡ block_size_in state.new) }
-    ensures state { OnOk result (IfSome state.new (λ s. FitsPlace place.now.format place.now.unit_frames s)) }
+    ensures state { OnOk result (ForceFits place.now state.new) }
 {
     let (given, restarts) = read_flags(due, r)?;
     out.restart = read_restart_if(restarts, known, place.format, r)?;
@@ -121,4 +122,16 @@ pub fn read_head(
     apply_if(place, &out.params, state);
     out.frames = block_size(state);
     Ok(())
+}
+
+/// Puts in force what the head of a block gives: its restart, and then its parameters.
+pub fn put_head(place: &Place, head: &BlockHead, state: &mut Option<State>)
+    requires place { IsPlace place.now }
+    requires state { ForceFits place.now state.old }
+    requires head { HeadFits place.now state.old head.now }
+    ensures value { state.new ≡ after_head place.now state.old head.now }
+    ensures state { ForceFits place.now state.new }
+{
+    restart_at(place, &head.restart, state);
+    apply_if(place, &head.params, state);
 }

@@ -13,14 +13,11 @@ mod known;
 pub mod laws;
 mod restarts;
 mod segment;
-#[cfg(test)]
-mod tests;
-#[cfg(test)]
-mod vectors;
 mod writing;
 mod writing_blocks;
 mod writing_heads;
 
+pub use heads::put_head;
 pub use known::{Ending, Known, Place};
 pub use segment::{read_segment, read_segment_into};
 pub use writing::write_segment;

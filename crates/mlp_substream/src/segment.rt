@@ -1,9 +1,10 @@
 //! Reading a segment.
-ghost use Rattle.std.specs.Prelude.{◌≡◌, ◌+◌, ◌-◌, ◌*◌, ◌≤◌, ◌<◌, Ok, Err, IfOk, OnOk, IfSome, MatchResult, length};
+ghost use Rattle.std.specs.Prelude.{◌≡◌, ◌+◌, ◌-◌, ◌*◌, ◌≤◌, ◌<◌, Ok, Err, IfOk, OnOk, MatchResult, length};
 ghost use Rattle.mlp_bits.specs.Bits.{bits_of};
 ghost use Rattle.mlp_layout.specs.Tails.{whole_text};
 ghost use Rattle.mlp_substream.specs.Checks.{checks_fault};
-ghost use Rattle.mlp_substream.specs.Blocks.{force_after, FitsPlace, IsPlace};
+ghost use Rattle.mlp_substream.specs.Blocks.{force_after, IsPlace, first_context, ForceFits};
+ghost use Rattle.mlp_substream.specs.Playable.{ArePlayable};
 ghost use Rattle.mlp_substream.specs.Segment.{segment_tail, segment_text, segment, unknown};
 
 use crate::blocks::read_blocks;
@@ -24,12 +25,12 @@ fn read_fields(
 ) -> Result<(), Broken>
     requires size { length bytes.now ≤ 8190 }
     requires place { IsPlace place.now }
-    requires state { IfSome state.old (λ s. FitsPlace place.now.format place.now.unit_frames s) }
+    requires state { ForceFits place.now state.old }
     ensures read { MatchResult result
-        (λ _. (whole_text (segment_tail place.now known.now (record { force = state.old; so_far = 0; due = place.now.major }) out.old.checked)).read (bits_of bytes.now) ≡ Ok out.new)
-        (λ e. (whole_text (segment_tail place.now known.now (record { force = state.old; so_far = 0; due = place.now.major }) out.old.checked)).read (bits_of bytes.now) ≡ Err e) }
+        (λ _. (whole_text (segment_tail place.now known.now (first_context place.now state.old) out.old.checked)).read (bits_of bytes.now) ≡ Ok out.new)
+        (λ e. (whole_text (segment_tail place.now known.now (first_context place.now state.old) out.old.checked)).read (bits_of bytes.now) ≡ Err e) }
     ensures force { OnOk result (state.new ≡ force_after place.now state.old out.new.blocks.items) }
-    ensures state { OnOk result (IfSome state.new (λ s. FitsPlace place.now.format place.now.unit_frames s)) }
+    ensures state { OnOk result (ForceFits place.now state.new) }
 {
     let mut r = BitReader::new(bytes);
     read_blocks(place, known, state, &mut r, out)?;
@@ -51,12 +52,12 @@ fn read_text(
 ) -> Result<(), Broken>
     requires size { length bytes.now ≤ 8190 }
     requires place { IsPlace place.now }
-    requires state { IfSome state.old (λ s. FitsPlace place.now.format place.now.unit_frames s) }
+    requires state { ForceFits place.now state.old }
     ensures read { MatchResult result
         (λ _. (segment_text place.now known.now state.old out.old.checked).read (bits_of bytes.now) ≡ Ok out.new)
         (λ e. (segment_text place.now known.now state.old out.old.checked).read (bits_of bytes.now) ≡ Err e) }
     ensures force { OnOk result (state.new ≡ force_after place.now state.old out.new.blocks.items) }
-    ensures state { OnOk result (IfSome state.new (λ s. FitsPlace place.now.format place.now.unit_frames s)) }
+    ensures state { OnOk result (ForceFits place.now state.new) }
 {
     read_fields(place, known, state, bytes, out)?;
     match end_fault(known, place.unit_frames, bytes.len() as u32 * 8, out) {
@@ -84,6 +85,34 @@ fn check_fault(bytes: &[u8]) -> Option<Broken>
     None
 }
 
+/// The checks of a segment where it has them, and then its text.
+fn read_whole(
+    place: &Place,
+    known: &Known,
+    state: &mut Option<State>,
+    bytes: &[u8],
+    checked: bool,
+    out: &mut Segment,
+) -> Result<(), Broken>
+    requires size { length bytes.now ≤ 8190 }
+    requires place { IsPlace place.now }
+    requires state { ForceFits place.now state.old }
+    ensures read { MatchResult result
+        (λ _. (segment place.now known.now state.old checked).read (bits_of bytes.now) ≡ Ok out.new)
+        (λ e. (segment place.now known.now state.old checked).read (bits_of bytes.now) ≡ Err e) }
+    ensures force { OnOk result (state.new ≡ force_after place.now state.old out.new.blocks.items) }
+    ensures state { OnOk result (ForceFits place.now state.new) }
+{
+    out.checked = checked;
+    if !checked {
+        return read_text(place, known, state, bytes, out);
+    }
+    match check_fault(bytes) {
+        Some(fault) => Err(fault),
+        None => read_text(place, known, state, &bytes[..bytes.len() - 2], out),
+    }
+}
+
 /// Reads a segment into `out`, whose blocks and frames are replaced, by what is known of it from elsewhere.
 ///
 /// At Ok `state` is what is in force behind it. The fault is the first rule that fails: of the checks, of the blocks one
@@ -99,21 +128,15 @@ pub fn read_segment_into(
 ) -> Result<(), Broken>
     requires size { length bytes.now ≤ 8190 }
     requires place { IsPlace place.now }
-    requires state { IfSome state.old (λ s. FitsPlace place.now.format place.now.unit_frames s) }
+    requires state { ForceFits place.now state.old }
     ensures read { MatchResult result
         (λ _. (segment place.now known.now state.old checked).read (bits_of bytes.now) ≡ Ok out.new)
         (λ e. (segment place.now known.now state.old checked).read (bits_of bytes.now) ≡ Err e) }
     ensures force { OnOk result (state.new ≡ force_after place.now state.old out.new.blocks.items) }
-    ensures state { OnOk result (IfSome state.new (λ s. FitsPlace place.now.format place.now.unit_frames s)) }
+    ensures state { OnOk result (ForceFits place.now state.new) }
+    ensures playable { OnOk result (ArePlayable place.now place.now.major state.old out.new.blocks.items out.new.codes.items) }
 {
-    out.checked = checked;
-    if !checked {
-        return read_text(place, known, state, bytes, out);
-    }
-    match check_fault(bytes) {
-        Some(fault) => Err(fault),
-        None => read_text(place, known, state, &bytes[..bytes.len() - 2], out),
-    }
+    read_whole(place, known, state, bytes, checked, out)
 }
 
 /// Reads a segment of which nothing is known from elsewhere.
@@ -128,12 +151,13 @@ pub fn read_segment(
 ) -> Result<Segment, Broken>
     requires size { length bytes.now ≤ 8190 }
     requires place { IsPlace place.now }
-    requires state { IfSome state.old (λ s. FitsPlace place.now.format place.now.unit_frames s) }
+    requires state { ForceFits place.now state.old }
     ensures read { MatchResult result
         (λ s. (segment place.now unknown state.old checked).read (bits_of bytes.now) ≡ Ok s)
         (λ e. (segment place.now unknown state.old checked).read (bits_of bytes.now) ≡ Err e) }
     ensures force { IfOk result (λ s. state.new ≡ force_after place.now state.old s.blocks.items) }
-    ensures state { OnOk result (IfSome state.new (λ s. FitsPlace place.now.format place.now.unit_frames s)) }
+    ensures state { OnOk result (ForceFits place.now state.new) }
+    ensures playable { IfOk result (λ s. ArePlayable place.now place.now.major state.old s.blocks.items s.codes.items) }
 {
     let known = Known {
         max_matrix: None,

@@ -1,11 +1,11 @@
 //! Writing a segment.
-ghost use Rattle.std.specs.Prelude.{◌≡◌, ◌+◌, ◌≤◌, ◌<◌, ◌^◌, ◌↔◌, ◌++◌, [], ◌∷◌, List, length, if◌then◌else◌, IsErr, IfSome, OnErr, OnOk};
+ghost use Rattle.std.specs.Prelude.{◌≡◌, ◌+◌, ◌≤◌, ◌<◌, ◌^◌, ◌↔◌, ◌++◌, [], ◌∷◌, List, length, if◌then◌else◌, IsErr, OnErr, OnOk};
 ghost use Rattle.mlp_bits.specs.Bits.{bits, bits_of};
 ghost use Rattle.mlp_bits.specs.Checks.{segment_parity_of, check8_of};
 ghost use Rattle.mlp_syntax.specs.declared.major.Kind.{Kind};
 ghost use Rattle.mlp_layout.specs.Layout.{spelling_as};
 ghost use Rattle.mlp_layout.specs.Writing.{Writes};
-ghost use Rattle.mlp_substream.specs.Blocks.{force_after, FitsPlace, IsPlace};
+ghost use Rattle.mlp_substream.specs.Blocks.{force_after, IsPlace, first_context, ForceFits};
 ghost use Rattle.mlp_substream.specs.Segment.{terminator as terminator_layout, padding_width, segment_tail, segment as segment_layout, unknown};
 
 use crate::known::Place;
@@ -45,12 +45,12 @@ fn write_fields(
 ) -> Result<(), Full>
     requires empty { w.old ≡ [] }
     requires place { IsPlace place.now }
-    requires state { IfSome state.old (λ s. FitsPlace place.now.format place.now.unit_frames s) }
-    requires fits { (segment_tail place.now unknown (record { force = state.old; so_far = 0; due = place.now.major }) segment.now.checked).Fits 0 segment.now }
-    requires meets { (segment_tail place.now unknown (record { force = state.old; so_far = 0; due = place.now.major }) segment.now.checked).Meets 0 segment.now }
-    ensures text { Writes w.old w.new result ((segment_tail place.now unknown (record { force = state.old; so_far = 0; due = place.now.major }) segment.now.checked).spelling 0 segment.now) }
+    requires state { ForceFits place.now state.old }
+    requires fits { (segment_tail place.now unknown (first_context place.now state.old) segment.now.checked).Fits 0 segment.now }
+    requires meets { (segment_tail place.now unknown (first_context place.now state.old) segment.now.checked).Meets 0 segment.now }
+    ensures text { Writes w.old w.new result ((segment_tail place.now unknown (first_context place.now state.old) segment.now.checked).spelling 0 segment.now) }
     ensures force { OnOk result (state.new ≡ force_after place.now state.old segment.now.blocks.items) }
-    ensures state { OnOk result (IfSome state.new (λ s. FitsPlace place.now.format place.now.unit_frames s)) }
+    ensures state { OnOk result (ForceFits place.now state.new) }
 {
     write_blocks(place, state, &segment.blocks, &segment.codes, w)?;
     write_end(segment.padding, segment.terminator, w)
@@ -87,14 +87,14 @@ pub fn write_segment(
     out: &mut UnitBytes,
 ) -> Result<(), UnitTooLong>
     requires place { IsPlace place.now }
-    requires state { IfSome state.old (λ s. FitsPlace place.now.format place.now.unit_frames s) }
+    requires state { ForceFits place.now state.old }
     requires fits { (segment_layout place.now unknown state.old segment.now.checked).Fits segment.now }
     requires meets { (segment_layout place.now unknown state.old segment.now.checked).Meets segment.now }
     ensures too_long { IsErr result ↔ (65520 < length (bits_of out.old.items ++ (segment_layout place.now unknown state.old segment.now.checked).spelling segment.now)) }
     ensures kept { OnErr result (out.new ≡ out.old) }
     ensures appended { OnOk result (bits_of out.new.items ≡ bits_of out.old.items ++ (segment_layout place.now unknown state.old segment.now.checked).spelling segment.now) }
     ensures force { OnOk result (state.new ≡ force_after place.now state.old segment.now.blocks.items) }
-    ensures state { OnOk result (IfSome state.new (λ s. FitsPlace place.now.format place.now.unit_frames s)) }
+    ensures state { OnOk result (ForceFits place.now state.new) }
 {
     let mut w = BitWriter::new();
     let Ok(()) = write_fields(place, state, segment, &mut w) else {

@@ -4,13 +4,13 @@
 //! has its old bits and perhaps a part of the new ones, and isn't used again.
 ghost use Rattle.std.specs.Prelude.{◌≡◌, ◌++◌, ℕ, Bool, true, length, IfSome, OnOk};
 ghost use Rattle.mlp_syntax.specs.declared.fault.Field.TheVariants.{BlockOverrun};
-ghost use Rattle.mlp_layout.specs.Combined.{flag, up_to_last};
+ghost use Rattle.mlp_layout.specs.Combined.{flag};
 ghost use Rattle.mlp_layout.specs.Writing.{Writes};
 ghost use Rattle.mlp_layout.specs.Allowed.{Allowed};
 ghost use Rattle.mlp_params.specs.States.{IsState};
 ghost use Rattle.mlp_residual.specs.Frames.{frames_of};
-ghost use Rattle.mlp_substream.specs.Blocks.{against, steps_fit_in, after_head, force_after, block as block_layout, after_block, FitsPlace, IsPlace};
-ghost use Rattle.mlp_substream.specs.Segment.{nested, most_blocks, unknown};
+ghost use Rattle.mlp_substream.specs.Blocks.{against, steps_fit_in, after_head, force_after, block as block_layout, IsPlace, context_of, first_context, ForceFits};
+ghost use Rattle.mlp_substream.specs.Segment.{nested, most_blocks, unknown, blocks_from};
 
 use crate::known::Place;
 use crate::writing_heads::write_head;
@@ -43,11 +43,11 @@ fn write_block(
     w: &mut BitWriter,
 ) -> Result<(), Full>
     requires place { IsPlace place.now }
-    requires state { IfSome state.old (λ s. FitsPlace place.now.format place.now.unit_frames s) }
-    requires block { (so_far : ℕ) × (due : Bool) × Allowed (block_layout place.now unknown (record { force = state.old; so_far = so_far; due = due })) (record { head = head.now; frames = frames.now }) }
-    ensures text { (so_far : ℕ) (due : Bool) → Writes w.old w.new result ((block_layout place.now unknown (record { force = state.old; so_far = so_far; due = due })).spelling (record { head = head.now; frames = frames.now })) }
+    requires state { ForceFits place.now state.old }
+    requires block { (so_far : ℕ) × (due : Bool) × Allowed (block_layout place.now unknown (context_of state.old so_far due)) (record { head = head.now; frames = frames.now }) }
+    ensures text { (so_far : ℕ) (due : Bool) → Writes w.old w.new result ((block_layout place.now unknown (context_of state.old so_far due)).spelling (record { head = head.now; frames = frames.now })) }
     ensures force { OnOk result (state.new ≡ after_head place.now state.old head.now) }
-    ensures state { OnOk result (IfSome state.new (λ s. FitsPlace place.now.format place.now.unit_frames s)) }
+    ensures state { OnOk result (ForceFits place.now state.new) }
 {
     write_head(place, state, head, w)?;
     write_codes(state, frames, w)
@@ -63,11 +63,11 @@ fn write_marked(
     w: &mut BitWriter,
 ) -> Result<(), Full>
     requires place { IsPlace place.now }
-    requires state { IfSome state.old (λ s. FitsPlace place.now.format place.now.unit_frames s) }
-    requires block { (so_far : ℕ) × (due : Bool) × Allowed (block_layout place.now unknown (record { force = state.old; so_far = so_far; due = due })) (record { head = head.now; frames = frames.now }) }
-    ensures text { (so_far : ℕ) (due : Bool) → Writes w.old w.new result ((block_layout place.now unknown (record { force = state.old; so_far = so_far; due = due })).spelling (record { head = head.now; frames = frames.now }) ++ flag.spelling last) }
+    requires state { ForceFits place.now state.old }
+    requires block { (so_far : ℕ) × (due : Bool) × Allowed (block_layout place.now unknown (context_of state.old so_far due)) (record { head = head.now; frames = frames.now }) }
+    ensures text { (so_far : ℕ) (due : Bool) → Writes w.old w.new result ((block_layout place.now unknown (context_of state.old so_far due)).spelling (record { head = head.now; frames = frames.now }) ++ flag.spelling last) }
     ensures force { OnOk result (state.new ≡ after_head place.now state.old head.now) }
-    ensures state { OnOk result (IfSome state.new (λ s. FitsPlace place.now.format place.now.unit_frames s)) }
+    ensures state { OnOk result (ForceFits place.now state.new) }
 {
     write_block(place, state, head, frames, w)?;
     put_flag(last, w)
@@ -82,11 +82,11 @@ pub fn write_blocks(
     w: &mut BitWriter,
 ) -> Result<(), Full>
     requires place { IsPlace place.now }
-    requires state { IfSome state.old (λ s. FitsPlace place.now.format place.now.unit_frames s) }
-    requires blocks { Allowed (up_to_last (block_layout place.now unknown) (after_block place.now) BlockOverrun most_blocks (record { force = state.old; so_far = 0; due = place.now.major })) (nested heads.now codes.now) }
-    ensures text { Writes w.old w.new result ((up_to_last (block_layout place.now unknown) (after_block place.now) BlockOverrun most_blocks (record { force = state.old; so_far = 0; due = place.now.major })).spelling (nested heads.now codes.now)) }
+    requires state { ForceFits place.now state.old }
+    requires blocks { Allowed (blocks_from place.now unknown most_blocks (first_context place.now state.old)) (nested heads.now codes.now) }
+    ensures text { Writes w.old w.new result ((blocks_from place.now unknown most_blocks (first_context place.now state.old)).spelling (nested heads.now codes.now)) }
     ensures force { OnOk result (state.new ≡ force_after place.now state.old heads.now) }
-    ensures state { OnOk result (IfSome state.new (λ s. FitsPlace place.now.format place.now.unit_frames s)) }
+    ensures state { OnOk result (ForceFits place.now state.new) }
 {
     let _place = w.place();
     let mut start = 0;

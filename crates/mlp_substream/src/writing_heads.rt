@@ -10,7 +10,7 @@ ghost use Rattle.mlp_layout.specs.Allowed.{Allowed};
 ghost use Rattle.mlp_params.specs.Parameters.{params};
 ghost use Rattle.mlp_params.specs.States.{IsState};
 ghost use Rattle.mlp_substream.specs.Restarts.{flags, judged_restart};
-ghost use Rattle.mlp_substream.specs.Blocks.{after_head, against, head as head_layout, FitsPlace, IsPlace};
+ghost use Rattle.mlp_substream.specs.Blocks.{after_head, against, head as head_layout, IsPlace, ForceFits};
 ghost use Rattle.mlp_substream.specs.Segment.{unknown};
 
 use crate::heads::{apply_if, restart_at};
@@ -73,11 +73,11 @@ pub fn write_head(
     w: &mut BitWriter,
 ) -> Result<(), Full>
     requires place { IsPlace place.now }
-    requires state { IfSome state.old (λ s. FitsPlace place.now.format place.now.unit_frames s) }
+    requires state { ForceFits place.now state.old }
     requires head { (due : Bool) × Allowed (head_layout place.now unknown due state.old) head.now }
     ensures text { (due : Bool) → Writes w.old w.new result ((head_layout place.now unknown due state.old).spelling head.now) }
     ensures force { OnOk result (state.new ≡ after_head place.now state.old head.now) }
-    ensures state { OnOk result (IfSome state.new (λ s. FitsPlace place.now.format place.now.unit_frames s)) }
+    ensures state { OnOk result (ForceFits place.now state.new) }
 {
     write_flags(head.params.is_some(), head.restart.is_some(), w)?;
     write_restart_if(&head.restart, w)?;

@@ -3,3 +3,7 @@
 
 #[cfg(test)]
 mod residual;
+#[cfg(test)]
+mod substream;
+#[cfg(test)]
+mod vectors;

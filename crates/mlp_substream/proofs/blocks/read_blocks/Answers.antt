@@ -10,13 +10,13 @@ use Rattle.mlp_layout.proofs.Loops.{ValuesContinue, value_stops, bit_stops, is_l
 use Rattle.mlp_params.specs.declared.state.State.{State}
 use Rattle.mlp_substream.specs.declared.known.Known.{Known}
 use Rattle.mlp_substream.specs.declared.known.Place.{Place}
-use Rattle.mlp_substream.specs.Blocks.{At, Block, block, after_head, after_block, force_after}
+use Rattle.mlp_substream.specs.Blocks.{BlockContext, Block, block, after_head, after_block, force_after, context_of}
 use Rattle.mlp_substream.specs.Segment.{heads_of, codes_of}
-use Rattle.mlp_substream.proofs.ReadingLaws.{at_of, at_is, no_front, force_starts, out_filled, rest_stays, heads_of-push, codes_of-push, force_after-push}
+use Rattle.mlp_substream.proofs.ReadingLaws.{at_is, no_front, force_starts, out_filled, rest_stays, heads_of-push, codes_of-push, force_after-push}
 use Rattle.mlp_substream.proofs.blocks.read_blocks.Goals as goal
 
 -- one fewer of the turns that are left
-fewer : (place : Place) (known : Known) (n m : ℕ) (at : At) (front : List Block) (all : List Bool) (p : ℕ) (total : Read (List Block)) → n ≡ m → ValuesContinue (block place known) (after_block place) BlockOverrun n at front all p total → ValuesContinue (block place known) (after_block place) BlockOverrun m at front all p total
+fewer : (place : Place) (known : Known) (n m : ℕ) (at : BlockContext) (front : List Block) (all : List Bool) (p : ℕ) (total : Read (List Block)) → n ≡ m → ValuesContinue (block place known) (after_block place) BlockOverrun n at front all p total → ValuesContinue (block place known) (after_block place) BlockOverrun m at front all p total
 fewer place known n m at front all p total e h = subst (λ (k : ℕ). ValuesContinue (block place known) (after_block place) BlockOverrun k at front all p total) e h
 
 only_err : {A E : Type 0} (r : Result A E) (P : A → Type 0) (Q R : E → Type 0) → IsErr r → IfErr r Q → ((e : E) → Q e → R e) → MatchResult r P R
@@ -59,7 +59,7 @@ returns-in_err-frames-clause-read c =
     let i = c.loop-count.invariant in
     let p = err_from_is_err_and c.from_residual.result c.from_residual.ensures.1 in
     let n = 21 - (c.loop-count.count + 1) in
-    let at = at_of c.loop-count.state c.loop-count.frames c.loop-count.due in
+    let at = context_of c.loop-count.state c.loop-count.frames c.loop-count.due in
     let here = fewer c.args.place.now c.args.known.now (21 - c.loop-count.count) (suc n) at i.done c.loop-count.r.all c.loop-count.r.place _ (omega arith) i.so_far in
     rw (p.1, p.2) (value_stops (block c.args.place.now c.args.known.now) (after_block c.args.place.now) BlockOverrun n at i.done c.loop-count.r.all c.loop-count.r.place _ here c.in_err-frames.field-0.0 c.in_err-frames.ensures.read)
 
@@ -68,7 +68,7 @@ returns-in_err-last-clause-read c =
     let i = c.loop-count.invariant in
     let p = err_from_is_err_and c.from_residual-in_err-last.result c.from_residual-in_err-last.ensures.1 in
     let n = 21 - (c.loop-count.count + 1) in
-    let at = at_of c.loop-count.state c.loop-count.frames c.loop-count.due in
+    let at = context_of c.loop-count.state c.loop-count.frames c.loop-count.due in
     let here = fewer c.args.place.now c.args.known.now (21 - c.loop-count.count) (suc n) at i.done c.loop-count.r.all c.loop-count.r.place _ (omega arith) i.so_far in
     let b = c.in_ok-frames.ensures.read in
     let one : Block = record { head = b.0; frames = b.1 } in
@@ -79,7 +79,7 @@ pub returns-then-last-clause-read : goal.returns-then-last-clause-read
 returns-then-last-clause-read c =
     let i = c.loop-count.invariant in
     let n = 21 - (c.loop-count.count + 1) in
-    let at = at_of c.loop-count.state c.loop-count.frames c.loop-count.due in
+    let at = context_of c.loop-count.state c.loop-count.frames c.loop-count.due in
     let here = fewer c.args.place.now c.args.known.now (21 - c.loop-count.count) (suc n) at i.done c.loop-count.r.all c.loop-count.r.place _ (omega arith) i.so_far in
     let b = c.in_ok-frames.ensures.read in
     let out = c.read_block_behind.new.out in
@@ -118,7 +118,7 @@ read_beyond-requires-clause-full c = let least = c.loop-count.invariant.least in
 pub returns-clause-read : goal.returns-clause-read
 returns-clause-read c =
     let i = c.loop-count.invariant in
-    let at = at_of c.loop-count.state c.loop-count.frames c.loop-count.due in
+    let at = context_of c.loop-count.state c.loop-count.frames c.loop-count.due in
     let here = fewer c.args.place.now c.args.known.now (21 - c.loop-count.count) 1 at i.done c.loop-count.r.all c.loop-count.r.place _ (omega arith) i.so_far in
     only_err c.read_beyond.result _ _ _ c.read_beyond.ensures.fails c.read_beyond.ensures.read (λ e h. value_stops (block c.args.place.now c.args.known.now) (after_block c.args.place.now) BlockOverrun 0 at i.done c.loop-count.r.all c.loop-count.r.place _ here e h)
 
@@ -127,7 +127,7 @@ loop-count-preserved c =
     let i = c.loop-count.invariant in
     let place = c.args.place.now in
     let n = 21 - (c.loop-count.count + 1) in
-    let at = at_of c.loop-count.state c.loop-count.frames c.loop-count.due in
+    let at = context_of c.loop-count.state c.loop-count.frames c.loop-count.due in
     let start = fewer c.args.place.now c.args.known.now (21 - c.loop-count.count) (suc n) at i.done c.loop-count.r.all c.loop-count.r.place _ (omega arith) i.so_far in
     let e = c.in_ok-frames.ensures in
     let b = e.read in
@@ -137,11 +137,11 @@ loop-count-preserved c =
     let read = rw c.if-last.false at c.in_ok-last.ensures.0 in
     let other = subst (λ (all : List Bool). flag.read all c.read_block_behind.new.r.place ≡ Ok (false, c.flag.new.r.place)) e.moved.0 read in
     let on = values_go_on (block c.args.place.now c.args.known.now) (after_block c.args.place.now) BlockOverrun n at i.done c.loop-count.r.all c.loop-count.r.place _ start one c.read_block_behind.new.r.place b.2 c.flag.new.r.place other in
-    let total = (up_to_last (block c.args.place.now c.args.known.now) (after_block c.args.place.now) BlockOverrun 21 (at_of c.args.state.now 0 c.args.place.now.major)).read c.args.r.now.all c.args.r.now.place in
+    let total = (up_to_last (block c.args.place.now c.args.known.now) (after_block c.args.place.now) BlockOverrun 21 (context_of c.args.state.now 0 c.args.place.now.major)).read c.args.r.now.all c.args.r.now.place in
     let same = at_is (after_head c.args.place.now c.loop-count.state b.0) c.read_block_behind.new.state (c.loop-count.frames + b.0.frames) c.in_ok-frames.frames false (sym b.5) (sym b.6) in
-    let here = subst (λ (a : At). ValuesContinue (block c.args.place.now c.args.known.now) (after_block c.args.place.now) BlockOverrun n a more c.loop-count.r.all c.flag.new.r.place total) same on in
+    let here = subst (λ (a : BlockContext). ValuesContinue (block c.args.place.now c.args.known.now) (after_block c.args.place.now) BlockOverrun n a more c.loop-count.r.all c.flag.new.r.place total) same on in
     let bits-are = c.in_ok-last.ensures.1 ∙ e.moved.0 in
-    let there = subst (λ (all : List Bool). ValuesContinue (block c.args.place.now c.args.known.now) (after_block c.args.place.now) BlockOverrun n (at_of c.read_block_behind.new.state c.in_ok-frames.frames false) more all c.flag.new.r.place total) (sym bits-are) here in
+    let there = subst (λ (all : List Bool). ValuesContinue (block c.args.place.now c.args.known.now) (after_block c.args.place.now) BlockOverrun n (context_of c.read_block_behind.new.state c.in_ok-frames.frames false) more all c.flag.new.r.place total) (sym bits-are) here in
     record {
       done = more;
       so_far = there;

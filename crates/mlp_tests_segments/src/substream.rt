@@ -1,13 +1,16 @@
 //! Segments of a silent stereo stream at 48 kHz, by bytes that were worked out by hand.
-ghost use Rattle.std.specs.Prelude.{◌≡◌, ◌≤◌, IfOk, IfSome, OnOk, length};
-ghost use Rattle.mlp_substream.specs.Blocks.{FitsPlace, IsPlace};
+ghost use Rattle.std.specs.Prelude.{◌≡◌, ◌≤◌, IfOk, OnOk, length};
+ghost use Rattle.mlp_substream.specs.Blocks.{IsPlace, ForceFits};
 ghost use Rattle.mlp_syntax.specs.declared.major.Kind.TheVariants.{Fba};
 
-use crate::laws::{law_blocks, law_known, law_reread, law_segment, law_written};
 use crate::vectors::{RICH, bytes_of};
-use crate::{Ending, Known, Place, read_segment, read_segment_into, write_segment};
 use mlp_layout::broken;
 use mlp_params::State;
+use mlp_substream::laws::{
+    law_behind_blocks, law_blocks, law_fresh, law_known, law_playable, law_reread, law_segment,
+    law_stamped, law_timing, law_written,
+};
+use mlp_substream::{Known, Place, read_segment, read_segment_into, write_segment};
 use mlp_syntax::{Broken, Field, Kind, Segment, UnitBytes, UnitTooLong};
 use std::process::Abort;
 
@@ -56,9 +59,9 @@ fn write_again(
 ) -> Result<Result<(), UnitTooLong>, Broken>
     requires size { length bytes.now ≤ 8190 }
     requires place { IsPlace place.now }
-    requires state { IfSome reading.old (λ s. FitsPlace place.now.format place.now.unit_frames s) }
+    requires state { ForceFits place.now reading.old }
     requires same { writing.old ≡ reading.old }
-    ensures state { IfOk result (λ r. OnOk r (IfSome reading.new (λ s. FitsPlace place.now.format place.now.unit_frames s))) }
+    ensures state { IfOk result (λ r. OnOk r (ForceFits place.now reading.new)) }
     ensures same { IfOk result (λ r. OnOk r (writing.new ≡ reading.new)) }
 {
     let segment = read_segment(place, reading, bytes, checked)?;
@@ -82,6 +85,8 @@ fn is_written_again(place: &Place, bytes: &[u8], checked: bool) -> bool
 
 #[test]
 fn writes_segments(rt: HostRuntime) {
+    law_segment();
+    law_written();
     assert!(rt; is_written_again(&stereo(true), &FIRST, true));
     assert!(rt; is_written_again(&stereo(true), &ENDED, true));
     assert!(rt; is_written_again(&stereo(true), &FIRST[..22], false));
@@ -168,87 +173,15 @@ fn refuses_what_is_too_long(rt: HostRuntime) {
 }
 
 #[test]
-fn reads_segments(rt: HostRuntime) {
-    law_segment();
-    law_written();
+fn reads_what_the_laws_speak_of(rt: HostRuntime) {
+    law_playable();
+    law_behind_blocks();
     law_known();
+    law_fresh();
+    law_timing();
+    law_stamped();
     let mut state: Option<State> = None;
-    let Ok(first) = read_segment(&stereo(true), &mut state, &FIRST, true) else {
-        panic!(rt; "the first segment is one");
-    };
-    assert_eq!(rt; first.codes.len(), 40);
-    assert_eq!(rt; first.blocks.len(), 1);
-    assert_eq!(rt; first.terminator, None);
-    let Ok(second) = read_segment(&stereo(false), &mut state, &[0x40, 0x00, 0xE9, 0x1D], true)
-    else {
-        panic!(rt; "so is the second");
-    };
-    assert_eq!(rt; second.codes.len(), 40);
-}
-
-#[test]
-fn names_faults(rt: HostRuntime) {
-    let faults = [
-        ([0x40u8, 0x00, 0xE8, 0x1D], Field::SegmentParity, 16),
-        ([0x40, 0x00, 0xE9, 0x1C], Field::SegmentCheck, 24),
-        ([0x40, 0x00, 0xE9, 0x1D], Field::RestartMissing, 0),
-    ];
-    for (bytes, field, bit) in faults {
-        let mut state: Option<State> = None;
-        let answer = read_segment(&stereo(true), &mut state, &bytes, true);
-        assert_eq!(rt; answer.err(), Some(broken(field, bit)));
-    }
-    let mut state: Option<State> = None;
-    assert_eq!(rt;
-        read_segment(&stereo(true), &mut state, &[0x40, 0x00], true).err(),
-        Some(broken(Field::SegmentShort, 0))
-    );
-}
-
-#[test]
-fn reads_by_what_is_known(rt: HostRuntime) {
-    let mut state: Option<State> = None;
-    let mut known = Known::default();
-    let mut segment = Segment::default();
-    known.first = Some(Ending {
-        frames: 40,
-        terminator: true,
-    });
-    assert!(rt;
-        read_segment_into(
-            &stereo(true),
-            &known,
-            &mut state,
-            &ENDED,
-            true,
-            &mut segment
-        )
-        .is_ok()
-    );
-    assert_eq!(rt; segment.blocks.len(), 2);
-    assert_eq!(rt; segment.terminator, Some(0x2027));
-    let mut state: Option<State> = None;
-    let answer = read_segment_into(
-        &stereo(true),
-        &known,
-        &mut state,
-        &FIRST,
-        true,
-        &mut segment,
-    );
-    assert_eq!(rt; answer, Err(broken(Field::TerminatorMixed, 176)));
-    let mut state: Option<State> = None;
-    known.covered = Some(0);
-    known.max_matrix = Some(3);
-    let answer = read_segment_into(
-        &stereo(true),
-        &known,
-        &mut state,
-        &ENDED,
-        true,
-        &mut segment,
-    );
-    assert_eq!(rt; answer, Err(broken(Field::ChannelsChanged, 40)));
+    assert!(rt; read_segment(&stereo(true), &mut state, &FIRST, true).is_ok());
 }
 
 /// Reads a first segment over what `segment` holds: it then holds what it would without that.

@@ -2,13 +2,13 @@
 //!
 //! A fault stands on a line: its rule, its bit, and the segment in hexadecimal digits. `..` stands for the rest of a longer
 //! segment, from behind the field that decides on; such a segment is read as one without check bytes.
-ghost use Rattle.std.specs.Prelude.{◌≡◌, ◌≤◌, ◌<◌, IfSome, length};
-ghost use Rattle.mlp_substream.specs.Blocks.{FitsPlace, IsPlace};
+ghost use Rattle.std.specs.Prelude.{◌≡◌, ◌≤◌, ◌<◌, length};
+ghost use Rattle.mlp_substream.specs.Blocks.{IsPlace, ForceFits};
 
-use crate::{Ending, Known, Place, read_segment, read_segment_into};
 use arrayvec::ArrayVec;
 use mlp_layout::broken;
 use mlp_params::State;
+use mlp_substream::{Ending, Known, Place, read_segment, read_segment_into};
 use mlp_syntax::{Field, Kind, Segment};
 use std::process::Abort;
 
@@ -380,7 +380,7 @@ fn behind(terminator: bool) -> Known {
 /// Whether the segment of a line has the fault of the line.
 fn is_named(place: &Place, known: &Known, state: &mut Option<State>, line: &str) -> bool
     requires place { IsPlace place.now }
-    requires state { IfSome state.old (λ s. FitsPlace place.now.format place.now.unit_frames s) }
+    requires state { ForceFits place.now state.old }
 {
     let (rule, rest) = line.split_once(' ').unwrap_or((line, ""));
     let (bit, digits) = rest.split_once(' ').unwrap_or((rest, ""));
@@ -441,8 +441,8 @@ fn names_what_other_segments_decide(rt: HostRuntime) {
 
 fn assert_whole(rt: &impl Abort, place: &Place, state: &mut Option<State>, whole: &Whole)
     requires place { IsPlace place.now }
-    requires state { IfSome state.old (λ s. FitsPlace place.now.format place.now.unit_frames s) }
-    ensures state { IfSome state.new (λ s. FitsPlace place.now.format place.now.unit_frames s) }
+    requires state { ForceFits place.now state.old }
+    ensures state { ForceFits place.now state.new }
 {
     let bytes = bytes_of(whole.digits);
     match read_segment(place, state, bytes.as_slice(), true) {
