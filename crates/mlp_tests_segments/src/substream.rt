@@ -10,8 +10,8 @@ use mlp_substream::laws::{
     law_behind_blocks, law_blocks, law_fresh, law_known, law_playable, law_reread, law_segment,
     law_stamped, law_timing, law_written,
 };
-use mlp_substream::{Known, Place, read_segment, read_segment_into, write_segment};
-use mlp_syntax::{Broken, Field, Kind, Segment, UnitBytes, UnitTooLong};
+use mlp_substream::{Known, Place, put_head, read_segment, read_segment_into, write_segment};
+use mlp_syntax::{BlockHead, Broken, Field, Kind, Segment, UnitBytes, UnitTooLong};
 use std::process::Abort;
 
 /// A restart, 40 frames of no bits, and checks.
@@ -172,8 +172,21 @@ fn refuses_what_is_too_long(rt: HostRuntime) {
     }
 }
 
+/// Puts in force a head that gives nothing.
+fn put_nothing(place: &Place, state: &mut Option<State>)
+    requires place { IsPlace place.now }
+    requires state { ForceFits place.now state.old }
+{
+    let head = BlockHead {
+        restart: None,
+        params: None,
+        frames: 40,
+    };
+    put_head(place, &head, state);
+}
+
 #[test]
-fn reads_what_the_laws_speak_of(rt: HostRuntime) {
+fn puts_heads_in_force(rt: HostRuntime) {
     law_playable();
     law_behind_blocks();
     law_known();
@@ -182,6 +195,12 @@ fn reads_what_the_laws_speak_of(rt: HostRuntime) {
     law_stamped();
     let mut state: Option<State> = None;
     assert!(rt; read_segment(&stereo(true), &mut state, &FIRST, true).is_ok());
+    let Some(State { block_size: 40, .. }) = state else {
+        panic!(rt; "blocks of 40 frames are in force");
+    };
+    let mut none: Option<State> = None;
+    put_nothing(&stereo(false), &mut none);
+    assert!(rt; none.is_none());
 }
 
 /// Reads a first segment over what `segment` holds: it then holds what it would without that.
