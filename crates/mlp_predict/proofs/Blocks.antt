@@ -3,7 +3,7 @@ use Rattle.std.proofs.Common.{◌≡◌, ℕ, zero, suc, ◌+◌, ◌-◌, ◌<�
 use Rattle.std.proofs.Math.ListN.{set}
 use Rattle.std.proofs.Common.{All}
 use Rattle.std.proofs.Math.Seq.{drop-cons, take-suc, take-suc-set}
-use Rattle.std.proofs.lemmas.List.{drop-set-lt, take-take, take_all}
+use Rattle.std.proofs.lemmas.List.{take-take, take_all}
 use Rattle.std.proofs.Common.{replicate}
 use Rattle.mlp_predict.proofs.Scaling.{dot-zeros}
 use Rattle.mlp_arith.specs.Words.{floor_by, clear, wrap}
@@ -60,30 +60,6 @@ residuals_of-latest m n f past q (x ∷ xs) a b =
 pub past_of-append : (f : Filters) (past : Past) (xs : List ℤ) (x : ℤ) → past_of f past (xs ++ x ∷ []) ≡ past_after f (past_of f past xs) x
 past_of-append f past [] x = refl
 past_of-append f past (y ∷ ys) x = past_of-append f (past_after f past y) ys x
-
--- what is done and what is to be done stay the whole, where the latest m and n values are kept
-pub outputs_step : (m n : ℕ) (f : Filters) (past : Past) (q : ℕ) (xs all : List ℤ) (i : ℕ) (x : ℤ) (after : Past) → length f.fir ≤ m → length f.iir ≤ n → i < length xs →
-    x ≡ restored f past q (get_or xs i (pos 0)) → after ≡ latest m n (past_after f past x) →
-    take i xs ++ outputs_of f past q (drop i xs) ≡ all → take (i + 1) (set xs i x) ++ outputs_of f after q (drop (i + 1) (set xs i x)) ≡ all
-outputs_step m n f past q xs all i x after a b h v w e =
-    let rest : drop (suc i) (set xs i x) ≡ drop (suc i) xs = drop-set-lt (suc i) xs i x (omega arith) in
-    let head : outputs_of f past q (drop i xs) ≡ x ∷ outputs_of f (past_after f past x) q (drop (suc i) xs) =
-    ap (outputs_of f past q) (drop-cons xs i (pos 0) h) ∙ ap (λ z. z ∷ outputs_of f (past_after f past z) q (drop (suc i) xs)) (sym v) in
-    rw add-one
-    (ap (λ ys. ys ++ outputs_of f after q (drop (suc i) (set xs i x))) (take-suc-set xs i x h)
-    ∙ append_assoc (take i xs) (x ∷ []) (outputs_of f after q (drop (suc i) (set xs i x)))
-    ∙ ap (λ ys. take i xs ++ (x ∷ outputs_of f after q ys)) rest
-    ∙ ap (λ past'. take i xs ++ (x ∷ outputs_of f past' q (drop (suc i) xs))) w
-    ∙ ap (λ ys. take i xs ++ (x ∷ ys)) (outputs_of-latest m n f (past_after f past x) q (drop (suc i) xs) a b)
-    ∙ sym (ap (λ ys. take i xs ++ ys) head)
-    ∙ e)
-
-pub past_step : (m n : ℕ) (f : Filters) (first past : Past) (xs : List ℤ) (i : ℕ) (x : ℤ) (after : Past) → length f.fir ≤ m → length f.iir ≤ n → i < length xs →
-    after ≡ latest m n (past_after f past x) → past ≡ latest m n (past_of f first (take i xs)) → after ≡ latest m n (past_of f first (take (i + 1) (set xs i x)))
-past_step m n f first past xs i x after a b h w e =
-    let before : Past = past_of f first (take i xs) in
-    w ∙ ap (λ past'. latest m n (past_after f past' x)) e ∙ latest_after m n f before x a b
-    ∙ sym (rw add-one (ap (λ ys. latest m n (past_of f first ys)) (take-suc-set xs i x h) ∙ ap (latest m n) (past_of-append f first (take i xs) x)))
 
 -- ---- filters that predict the same
 

@@ -3,7 +3,8 @@ use Rattle.std.proofs.Common.{◌≡◌, ℕ, zero, suc, ◌+◌, ◌-◌, ◌<�
 use Rattle.std.proofs.Math.ListN.{set}
 use Rattle.std.proofs.Math.Seq.{drop-cons, take-suc, take-suc-set, set-append_seam}
 use Rattle.std.proofs.lemmas.Int.{ints}
-use Rattle.std.proofs.lemmas.List.{drop-set-lt, drop-take, take-append-drop, take-replicate, take_at, drop_at, drop-append-le, length-append, length-replicate, length-take-le, length-reverse, length-drop, reverse-append, reverse-reverse, get_or-reverse}
+use Rattle.std.proofs.lemmas.List.{drop-set-lt, drop-take, take-append-drop, take-replicate, take_at, drop_at, drop-append-le}
+use Rattle.std.proofs.lemmas.List.{length-append, length-replicate, length-take-le, length-reverse, length-drop, reverse-append, reverse-reverse, get_or-reverse}
 use Rattle.mlp_arith.specs.Words.{wrap}
 use Rattle.mlp_predict.specs.Prediction.{dot, Past, Filters, predicted, restored, past_after, outputs_of, past_of, with_zeros}
 use Rattle.mlp_predict.specs.Lines.{past_in}

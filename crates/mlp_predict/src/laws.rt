@@ -13,7 +13,8 @@ ghost use Rattle.mlp_predict.specs.Outputs.{outputs_from, past_from, frame_at, b
 pub fn law_outputs()
     ensures one { (frames : ℕ → Frame) →
         AreOutputs frames (outputs_at frames) (differences_at frames) (predictions_at frames) }
-    ensures only { (frames : ℕ → Frame) (x e p x' e' p' : ℕ → ℤ) → AreOutputs frames x e p → AreOutputs frames x' e' p' →
+    ensures only { (frames : ℕ → Frame) (x e p x' e' p' : ℕ → ℤ) →
+        AreOutputs frames x e p → AreOutputs frames x' e' p' →
         (i : ℕ) → (x i ≡ x' i) × (e i ≡ e' i) × (p i ≡ p' i) }
     ensures steps { (m n : ℕ) (frames : ℕ → Frame) (x e p : ℕ → ℤ) → AreWithin m n frames → AreOutputs frames x e p →
         (i : ℕ) → output_after (steps_after m n frames i) (frames i) ≡ x i }
@@ -25,8 +26,10 @@ pub fn law_outputs()
 /// Frames in a list, by steps over the latest values: since a restart they have the outputs of the whole sequence and
 /// leave its latest values; joined lists follow one another; and frames of one pair of filters are a block.
 pub fn law_frames()
-    ensures count { (m n : ℕ) (past : Past) (frames : List Frame) → length (outputs_from m n past frames) ≡ length frames }
-    ensures sequence { (m n : ℕ) (frames : List Frame) → All (IsWithin m n) frames → (i : ℕ) (d : ℤ) → i < length frames →
+    ensures count { (m n : ℕ) (past : Past) (frames : List Frame) →
+        length (outputs_from m n past frames) ≡ length frames }
+    ensures sequence { (m n : ℕ) (frames : List Frame) → All (IsWithin m n) frames →
+        (i : ℕ) (d : ℤ) → i < length frames →
         slice_index_or (outputs_from m n (zeros m n) frames) i d ≡ outputs_at (frame_at frames) i }
     ensures past { (m n : ℕ) (frames : List Frame) → All (IsWithin m n) frames →
         past_from m n (zeros m n) frames ≡ latest m n (with_zeros m n (past_at (frame_at frames) (length frames))) }
@@ -35,9 +38,12 @@ pub fn law_frames()
         ≡ outputs_from m n past first ++ outputs_from m n (past_from m n past first) rest }
     ensures join_past { (m n : ℕ) (past : Past) (first rest : List Frame) →
         past_from m n past (first ++ rest) ≡ past_from m n (past_from m n past first) rest }
-    ensures block_outputs { (m n : ℕ) (f : Filters) (past : Past) (step : ℕ) (state rs : List ℤ) → length f.fir ≤ m → length f.iir ≤ n →
-        outputs_from m n past (with_state_first state (block_of f step rs)) ≡ outputs_of f (with_state state past) step rs }
-    ensures block_past { (m n : ℕ) (f : Filters) (past : Past) (step : ℕ) (state rs : List ℤ) → length f.fir ≤ m → length f.iir ≤ n →
+    ensures block_outputs { (m n : ℕ) (f : Filters) (past : Past) (step : ℕ) (state rs : List ℤ) →
+        length f.fir ≤ m → length f.iir ≤ n →
+        outputs_from m n past (with_state_first state (block_of f step rs))
+        ≡ outputs_of f (with_state state past) step rs }
+    ensures block_past { (m n : ℕ) (f : Filters) (past : Past) (step : ℕ) (state rs : List ℤ) →
+        length f.fir ≤ m → length f.iir ≤ n →
         0 < length rs → let given : Past = with_state state past in
         past_from m n past (with_state_first state (block_of f step rs))
         ≡ latest m n (past_of f given (outputs_of f given step rs)) }

@@ -12,6 +12,3 @@ mod sample;
 pub use history::History;
 pub use predictor::Predictor;
 pub use sample::dot;
-
-#[cfg(test)]
-mod tests;

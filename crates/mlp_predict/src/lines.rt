@@ -35,7 +35,9 @@ fn predict_at<const M: usize, const K: usize>(
     requires shift { shift < 16 }
     requires within { 16 + i < length outputs.now }
     requires same { length outputs.now ≡ length differences.now }
-    ensures value { result ≡ predicted (filters_in fir.now iir.now shift) (past_in (take (16 + i) outputs.now) (take (16 + i) differences.now)) }
+    ensures value { result
+        ≡ predicted (filters_in fir.now iir.now shift)
+        (past_in (take (16 + i) outputs.now) (take (16 + i) differences.now)) }
     ensures low { neg_ℤ (pos (2 ^ 51)) ≤ℤ result }
     ensures high { result ≤ℤ pos (2 ^ 51) }
 {
@@ -61,7 +63,8 @@ pub fn restore_line<const M: usize, const K: usize>(
     requires room { 16 ≤ length outputs.old }
     requires same { length outputs.old ≡ length differences.old }
     ensures outputs { let past : Past = past_in (take 16 outputs.old) (take 16 differences.old) in
-        outputs.new ≡ take 16 outputs.old ++ outputs_of (filters_in fir.now iir.now shift) past step (drop 16 outputs.old) }
+        outputs.new
+        ≡ take 16 outputs.old ++ outputs_of (filters_in fir.now iir.now shift) past step (drop 16 outputs.old) }
     ensures past { let f : Filters = filters_in fir.now iir.now shift in
         let past : Past = past_in (take 16 outputs.old) (take 16 differences.old) in
         past_in outputs.new differences.new ≡ past_of f past (outputs_of f past step (drop 16 outputs.old)) }
@@ -74,7 +77,8 @@ pub fn restore_line<const M: usize, const K: usize>(
     }
 }
 
-/// Replaces the residuals of a block by outputs, from the latest outputs and differences on, which come before the block in the lines.
+/// Replaces the residuals of a block by outputs, from the latest outputs and differences on, which come before the
+/// block in the lines.
 #[inline]
 pub fn restore_between<const M: usize, const K: usize>(
     fir: &[i32; M],
@@ -103,7 +107,8 @@ pub fn restore_between<const M: usize, const K: usize>(
     ensures past { let past : Past = record { outputs = latest_outputs.now; differences = latest_differences.now } in
         let end : ℕ = 16 + length block.old in
         past_in (take end outputs.new) (take end differences.new)
-        ≡ with_zeros (16 - length latest_outputs.now) (16 - length latest_differences.now) (past_of (filters_in fir.now iir.now shift) past block.new) }
+        ≡ with_zeros (16 - length latest_outputs.now) (16 - length latest_differences.now)
+        (past_of (filters_in fir.now iir.now shift) past block.new) }
 {
     let end = 16 + block.len();
     put_before(latest_outputs, outputs);

@@ -102,7 +102,8 @@ impl<const F: usize, const I: usize> Predictor<F, I> {
         self.restored(&fir_taps, &iir_taps, shift_of(fir, iir), step, residual)
     }
 
-    /// The residual of a sample, which both histories take, or None where it hasn't 32 signed bits, and the histories stay.
+    /// The residual of a sample, which both histories take, or None where it hasn't 32 signed bits, and the histories
+    /// stay.
     /// `restore` of the residual gives back a sample without low `step` bits, and leaves the same histories.
     pub fn reduce(&mut self, fir: &Filter<F>, iir: &Filter<I>, step: u8, sample: i32) -> Option<i32>
         requires any_output { 0 < F }
@@ -113,7 +114,8 @@ impl<const F: usize, const I: usize> Predictor<F, I> {
         requires step { step < 16 }
         ensures fits { IsSome result ↔ FitsSigned w32 (reduced (filters_of fir.now iir.now) self.old step sample) }
         ensures value { IfSome result (λ r. r ≡ reduced (filters_of fir.now iir.now) self.old step sample) }
-        ensures back { IfSome result (λ r. clear step sample ≡ sample → restored (filters_of fir.now iir.now) self.old step r ≡ sample) }
+        ensures back { IfSome result
+            (λ r. clear step sample ≡ sample → restored (filters_of fir.now iir.now) self.old step r ≡ sample) }
         ensures past { OnSome result (self.new ≡ latest F I (past_after (filters_of fir.now iir.now) self.old sample)) }
         ensures none { IfNone result (self.new ≡ self.old) }
     {
@@ -169,7 +171,11 @@ impl<const F: usize, const I: usize> Predictor<F, I> {
         requires any_difference { 0 < I }
         requires fir_room { F ≤ 16 }
         requires iir_room { I ≤ 16 }
-        ensures { self.new ≡ record { outputs = output ∷ take (F - 1) self.old.outputs; differences = difference ∷ take (I - 1) self.old.differences } }
+        ensures { self.new
+            ≡ record {
+              outputs = output ∷ take (F - 1) self.old.outputs;
+              differences = difference ∷ take (I - 1) self.old.differences;
+            } }
     {
         self.outputs.push(output);
         self.differences.push(difference);
@@ -193,8 +199,10 @@ impl<const F: usize, const I: usize> Predictor<F, I> {
         requires iir_known { K ≤ I }
         requires filters { AreSmall (record { fir = fir.now; iir = iir.now; shift = shift }) }
         requires step { step < 16 }
-        ensures value { result ≡ restored (record { fir = fir.now; iir = iir.now; shift = shift }) self.old step residual }
-        ensures past { self.new ≡ latest F I (past_after (record { fir = fir.now; iir = iir.now; shift = shift }) self.old result) }
+        ensures value { result
+            ≡ restored (record { fir = fir.now; iir = iir.now; shift = shift }) self.old step residual }
+        ensures past { self.new
+            ≡ latest F I (past_after (record { fir = fir.now; iir = iir.now; shift = shift }) self.old result) }
     {
         let prediction = self.predicted(fir, iir, shift);
         let output = output_of(step, prediction, residual);
@@ -220,9 +228,12 @@ impl<const F: usize, const I: usize> Predictor<F, I> {
         requires iir_known { K ≤ I }
         requires filters { AreSmall (record { fir = fir.now; iir = iir.now; shift = shift }) }
         requires step { step < 16 }
-        ensures fits { IsSome result ↔ FitsSigned w32 (reduced (record { fir = fir.now; iir = iir.now; shift = shift }) self.old step sample) }
-        ensures value { IfSome result (λ r. r ≡ reduced (record { fir = fir.now; iir = iir.now; shift = shift }) self.old step sample) }
-        ensures past { OnSome result (self.new ≡ latest F I (past_after (record { fir = fir.now; iir = iir.now; shift = shift }) self.old sample)) }
+        ensures fits { IsSome result
+            ↔ FitsSigned w32 (reduced (record { fir = fir.now; iir = iir.now; shift = shift }) self.old step sample) }
+        ensures value { IfSome result
+            (λ r. r ≡ reduced (record { fir = fir.now; iir = iir.now; shift = shift }) self.old step sample) }
+        ensures past { OnSome result (self.new
+            ≡ latest F I (past_after (record { fir = fir.now; iir = iir.now; shift = shift }) self.old sample)) }
         ensures none { IfNone result (self.new ≡ self.old) }
     {
         let prediction = self.predicted(fir, iir, shift);
@@ -250,9 +261,15 @@ impl<const F: usize, const I: usize> Predictor<F, I> {
         requires filters { AreSmall (record { fir = fir.now; iir = iir.now; shift = shift }) }
         requires step { step < 16 }
         requires room { length samples.now ≡ length residuals.old }
-        ensures fit { IsTrue result ↔ All (FitsSigned w32) (residuals_of (record { fir = fir.now; iir = iir.now; shift = shift }) self.old step samples.now) }
-        ensures values { IsTrue result → residuals.new ≡ residuals_of (record { fir = fir.now; iir = iir.now; shift = shift }) self.old step samples.now }
-        ensures past { IsTrue result → self.new ≡ latest F I (past_of (record { fir = fir.now; iir = iir.now; shift = shift }) self.old samples.now) }
+        ensures fit { IsTrue result
+            ↔ All (FitsSigned w32)
+            (residuals_of (record { fir = fir.now; iir = iir.now; shift = shift }) self.old step samples.now) }
+        ensures values { IsTrue result →
+            residuals.new
+            ≡ residuals_of (record { fir = fir.now; iir = iir.now; shift = shift }) self.old step samples.now }
+        ensures past { IsTrue result →
+            self.new
+            ≡ latest F I (past_of (record { fir = fir.now; iir = iir.now; shift = shift }) self.old samples.now) }
     {
         let _ = &self.outputs;
         for i in 0..samples.len() {
@@ -357,9 +374,12 @@ impl<const F: usize, const I: usize> Predictor<F, I> {
         requires filters { AreFilters fir.now iir.now }
         requires step { step < 16 }
         requires room { length samples.now ≡ length residuals.old }
-        ensures fit { IsTrue result ↔ All (FitsSigned w32) (residuals_of (filters_of fir.now iir.now) self.old step samples.now) }
-        ensures values { IsTrue result → residuals.new ≡ residuals_of (filters_of fir.now iir.now) self.old step samples.now }
-        ensures past { IsTrue result → self.new ≡ latest F I (past_of (filters_of fir.now iir.now) self.old samples.now) }
+        ensures fit { IsTrue result
+            ↔ All (FitsSigned w32) (residuals_of (filters_of fir.now iir.now) self.old step samples.now) }
+        ensures values { IsTrue result →
+            residuals.new ≡ residuals_of (filters_of fir.now iir.now) self.old step samples.now }
+        ensures past { IsTrue result →
+            self.new ≡ latest F I (past_of (filters_of fir.now iir.now) self.old samples.now) }
     {
         let fir_taps: [i32; M] = taps(fir.coeffs.as_slice(), fir.coeff_shift);
         let iir_taps: [i32; K] = taps(iir.coeffs.as_slice(), iir.coeff_shift);
@@ -371,6 +391,46 @@ impl<const F: usize, const I: usize> Predictor<F, I> {
             samples,
             residuals,
         )
+    }
+
+    /// As `reduce_through`, with sums of products that fit filters with an IIR.
+    fn reduce_paired(
+        &mut self,
+        fir: &Filter<F>,
+        iir: &Filter<I>,
+        step: u8,
+        samples: &[i32],
+        residuals: &mut [i32],
+    ) -> bool
+        requires any_output { 0 < F }
+        requires any_difference { 0 < I }
+        requires fir_room { F ≤ 16 }
+        requires iir_room { I ≤ 16 }
+        requires filters { AreFilters fir.now iir.now }
+        requires step { step < 16 }
+        requires room { length samples.now ≡ length residuals.old }
+        ensures fit { IsTrue result
+            ↔ All (FitsSigned w32) (residuals_of (filters_of fir.now iir.now) self.old step samples.now) }
+        ensures values { IsTrue result →
+            residuals.new ≡ residuals_of (filters_of fir.now iir.now) self.old step samples.now }
+        ensures past { IsTrue result →
+            self.new ≡ latest F I (past_of (filters_of fir.now iir.now) self.old samples.now) }
+    {
+        let order = fir.coeffs.as_slice().len();
+        let iir_order = iir.coeffs.as_slice().len();
+        match (order, iir_order) {
+            (0, 1) => return self.reduce_with::<0, 1>(fir, iir, step, samples, residuals),
+            (1, 1) => return self.reduce_with::<1, 1>(fir, iir, step, samples, residuals),
+            (2, 1) => return self.reduce_with::<2, 1>(fir, iir, step, samples, residuals),
+            _ => {}
+        }
+        if F < 4 || I < 4 || order > 4 || iir_order > 4 {
+            return self.reduce_with::<F, I>(fir, iir, step, samples, residuals);
+        }
+        if iir_order > 2 {
+            return self.reduce_with::<4, 4>(fir, iir, step, samples, residuals);
+        }
+        self.reduce_with::<4, 2>(fir, iir, step, samples, residuals)
     }
 
     /// As `reduce_block`, but at `false` the histories aren't used again.
@@ -389,13 +449,16 @@ impl<const F: usize, const I: usize> Predictor<F, I> {
         requires filters { AreFilters fir.now iir.now }
         requires step { step < 16 }
         requires room { length samples.now ≡ length residuals.old }
-        ensures fit { IsTrue result ↔ All (FitsSigned w32) (residuals_of (filters_of fir.now iir.now) self.old step samples.now) }
-        ensures values { IsTrue result → residuals.new ≡ residuals_of (filters_of fir.now iir.now) self.old step samples.now }
-        ensures past { IsTrue result → self.new ≡ latest F I (past_of (filters_of fir.now iir.now) self.old samples.now) }
+        ensures fit { IsTrue result
+            ↔ All (FitsSigned w32) (residuals_of (filters_of fir.now iir.now) self.old step samples.now) }
+        ensures values { IsTrue result →
+            residuals.new ≡ residuals_of (filters_of fir.now iir.now) self.old step samples.now }
+        ensures past { IsTrue result →
+            self.new ≡ latest F I (past_of (filters_of fir.now iir.now) self.old samples.now) }
     {
         let order = fir.coeffs.as_slice().len();
         if iir.coeffs.as_slice().len() > 0 {
-            return self.reduce_with::<F, I>(fir, iir, step, samples, residuals);
+            return self.reduce_paired(fir, iir, step, samples, residuals);
         }
         match order {
             0 => self.reduce_with::<0, 0>(fir, iir, step, samples, residuals),
@@ -428,9 +491,12 @@ impl<const F: usize, const I: usize> Predictor<F, I> {
         requires filters { AreFilters fir.now iir.now }
         requires step { step < 16 }
         requires room { length samples.now ≡ length residuals.old }
-        ensures fit { IsTrue result ↔ All (FitsSigned w32) (residuals_of (filters_of fir.now iir.now) self.old step samples.now) }
-        ensures values { IsTrue result → residuals.new ≡ residuals_of (filters_of fir.now iir.now) self.old step samples.now }
-        ensures past { IsTrue result → self.new ≡ latest F I (past_of (filters_of fir.now iir.now) self.old samples.now) }
+        ensures fit { IsTrue result
+            ↔ All (FitsSigned w32) (residuals_of (filters_of fir.now iir.now) self.old step samples.now) }
+        ensures values { IsTrue result →
+            residuals.new ≡ residuals_of (filters_of fir.now iir.now) self.old step samples.now }
+        ensures past { IsTrue result →
+            self.new ≡ latest F I (past_of (filters_of fir.now iir.now) self.old samples.now) }
         ensures stays { result ≡ false → self.new ≡ self.old }
     {
         let mut channel = self.copied();
@@ -457,8 +523,10 @@ impl<const F: usize, const I: usize> Predictor<F, I> {
         requires filters { AreFilters fir.now iir.now }
         requires step { step < 16 }
         requires room { length samples.now ≡ length residuals.old }
-        ensures fit { IsTrue result ↔ All (FitsSigned w32) (residuals_of (filters_of fir.now iir.now) self.now step samples.now) }
-        ensures values { IsTrue result → residuals.new ≡ residuals_of (filters_of fir.now iir.now) self.now step samples.now }
+        ensures fit { IsTrue result
+            ↔ All (FitsSigned w32) (residuals_of (filters_of fir.now iir.now) self.now step samples.now) }
+        ensures values { IsTrue result →
+            residuals.new ≡ residuals_of (filters_of fir.now iir.now) self.now step samples.now }
     {
         let mut channel = self.copied();
         channel.reduce_through(fir, iir, step, samples, residuals)

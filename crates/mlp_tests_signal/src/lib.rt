@@ -13,3 +13,5 @@ mod io;
 mod matrix;
 #[cfg(test)]
 mod pcm;
+#[cfg(test)]
+mod predict;

@@ -15,9 +15,7 @@ fn row(dest: u8, frac: u8, bypass: bool, fields: &[Option<i32>]) -> MatrixRow
     ensures coeffs { result.coeffs.items ≡ fields.now }
 {
     let mut coeffs: ArrayVec<Option<i32>, 10> = ArrayVec::new();
-    for i in 0..fields.len() {
-        coeffs.push(fields[i]);
-    }
+    let _ = coeffs.try_extend_from_slice(fields);
     MatrixRow {
         dest,
         frac,

@@ -11,4 +11,15 @@ returns-clause-value g c =
     let s = c.dot.ensures.sum in
     let t = c.dot-2.ensures.sum in
     let fits : FitsSigned w64 (c.dot.result +ℤ c.dot-2.result) = omega (arith, ints, c.dot.ensures.low, c.dot.ensures.high, c.dot-2.ensures.low, c.dot-2.ensures.high) in
-    cc (a, b, s, t, c.floor_by.ensures, to_z-of_z w64 c.floor_by.result (record { sfits = c.floor_by.type_inv }), to_z-of_z w64 c.dot.result (record { sfits = c.dot.type_inv }), to_z-of_z w64 c.dot-2.result (record { sfits = c.dot-2.type_inv }), to_z-of_z w64 (c.dot.result +ℤ c.dot-2.result) fits)
+    cc (
+      a,
+      b,
+      s,
+      t,
+      c.floor_by.ensures,
+      to_z-of_z w64 c.floor_by.result (record { sfits = c.floor_by.type_inv }),
+      to_z-of_z w64 c.dot.result (record { sfits = c.dot.type_inv }),
+      to_z-of_z w64 c.dot-2.result
+          (record { sfits = c.dot-2.type_inv }),
+      to_z-of_z w64 (c.dot.result +ℤ c.dot-2.result) fits,
+    )

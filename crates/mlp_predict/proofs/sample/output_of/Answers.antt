@@ -8,4 +8,14 @@ returns c =
     let s : FitsSigned w64 (c.args.prediction +ℤ c.args.residual) = omega (arith, ints) in
     let d : FitsSigned w64 c.clear.result = record { sfits = c.clear.type_inv } in
     let e : FitsSigned w32 c.wrap.result = record { sfits = c.wrap.type_inv } in
-    cc (to_z-of_z w32 c.args.residual c.ranges.residual, to_z-of_z w64 c.args.residual q, to_z-of_z w64 c.args.prediction c.ranges.prediction, to_z-of_z w64 (c.args.prediction +ℤ c.args.residual) s, to_z-of_z w64 c.clear.result d, to_z-of_z w32 c.wrap.result e, c.clear.ensures, c.wrap.ensures, c.from.ensures)
+    cc (
+      to_z-of_z w32 c.args.residual c.ranges.residual,
+      to_z-of_z w64 c.args.residual q,
+      to_z-of_z w64 c.args.prediction c.ranges.prediction,
+      to_z-of_z w64 (c.args.prediction +ℤ c.args.residual) s,
+      to_z-of_z w64 c.clear.result d,
+      to_z-of_z w32 c.wrap.result e,
+      c.clear.ensures,
+      c.wrap.ensures,
+      c.from.ensures,
+    )

@@ -8,7 +8,16 @@ pub invariant_of-self : goal.invariant_of-self
 invariant_of-self g c =
     let vs = c.as_slice.result.now in (
       c.self.invariant.0,
-      omega (arith, ap length c.replace_latest.ensures, length-append (scaled c.args.state.now.shift vs) (drop (length vs) c.self.inside.differences), length-scaled c.args.state.now.shift vs, length-drop (length vs) c.self.inside.differences, ap length c.as_slice.ensures.value, c.self.invariant.1),
+      omega (
+        arith,
+        ap length c.replace_latest.ensures,
+        length-append (scaled c.args.state.now.shift vs) (drop (length vs) c.self.inside.differences),
+        length-scaled c.args.state.now.shift vs,
+        length-drop
+            (length vs) c.self.inside.differences,
+        ap length c.as_slice.ensures.value,
+        c.self.invariant.1,
+      ),
     )
 
 pub returns : goal.returns

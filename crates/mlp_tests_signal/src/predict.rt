@@ -1,11 +1,11 @@
 //! Predictions worked by hand.
 
-ghost use Rattle.std.specs.Prelude.{◌≡◌, ◌≤◌, ◌<◌, length, All};
+ghost use Rattle.std.specs.Prelude.{◌≤◌, ◌<◌, length, All};
 ghost use Rattle.mlp_predict.specs.Filters.{IsFilter, scaled};
 ghost use Rattle.mlp_predict.specs.Prediction.{IsCoefficient};
 
-use crate::{History, Predictor};
 use arrayvec::ArrayVec;
+use mlp_predict::{History, Predictor, dot};
 use mlp_syntax::{Filter, FilterState};
 
 fn filter<const N: usize>(coeffs: &[i32], shift: u8, coeff_shift: u8) -> Filter<N>
@@ -43,37 +43,28 @@ fn channel(latest: i32, before: i32) -> Predictor<8, 4> {
 }
 
 #[test]
-fn sums_the_latest_outputs(rt: HostRuntime) {
+fn predicts_from_outputs(rt: HostRuntime) {
     let mut past = channel(9, 5);
     let fir: Filter<8> = filter(&[2, -1], 0, 0);
     assert_eq!(rt; past.predict(&fir, &none()), 13);
     assert_eq!(rt; past.restore(&fir, &none(), 0, -1), 12);
+
+    // Sums are rounded down, and low bits cleared below 0 too.
+    let eighths: Filter<8> = filter(&[7], 3, 0);
+    let mut below = channel(-72, 0);
+    assert_eq!(rt; channel(-1, 0).predict(&eighths, &none()), -1);
+    assert_eq!(rt; below.copied().reduce(&eighths, &none(), 3, -56), Some(8));
+    assert_eq!(rt; below.restore(&eighths, &none(), 3, 8), -56);
+    assert_eq!(rt; below.differences()[0], 7);
+
+    let same: Filter<8> = filter(&[1], 0, 0);
+    let mut low = channel(-1, 0);
+    assert_eq!(rt; low.reduce(&same, &none(), 0, 2147483647), None);
+    assert_eq!(rt; low.outputs()[0], -1);
 }
 
 #[test]
-fn rounds_down(rt: HostRuntime) {
-    let mut past = channel(-1, 0);
-    let fir: Filter<8> = filter(&[7], 3, 0);
-    assert_eq!(rt; past.predict(&fir, &none()), -1);
-    assert_eq!(rt; past.restore(&fir, &none(), 0, 0), -1);
-}
-
-#[test]
-fn clears_low_bits(rt: HostRuntime) {
-    let mut past = channel(-72, 0);
-    let mut encoder = channel(-72, 0);
-    let fir: Filter<8> = filter(&[7], 3, 0);
-    assert_eq!(rt; past.predict(&fir, &none()), -63);
-    assert_eq!(rt; past.restore(&fir, &none(), 3, 8), -56);
-    assert_eq!(rt; encoder.reduce(&fir, &none(), 3, -56), Some(8));
-
-    let difference: Filter<4> = filter(&[1], 0, 0);
-    assert_eq!(rt; past.predict(&none(), &difference), 7);
-    assert_eq!(rt; encoder.predict(&none(), &difference), 7);
-}
-
-#[test]
-fn sums_differences(rt: HostRuntime) {
+fn predicts_from_differences(rt: HostRuntime) {
     let mut past = channel(10, 0);
     let fir: Filter<8> = filter(&[4], 2, 0);
     let iir: Filter<4> = filter(&[-1], 2, 1);
@@ -86,40 +77,33 @@ fn sums_differences(rt: HostRuntime) {
     });
     assert_eq!(rt; past.predict(&fir, &iir), 9);
     assert_eq!(rt; past.restore(&fir, &iir, 1, 2), 10);
-
-    let difference: Filter<4> = filter(&[1], 0, 0);
-    assert_eq!(rt; past.predict(&none(), &difference), 1);
-}
-
-#[test]
-fn refuses_a_residual_of_33_bits(rt: HostRuntime) {
-    let mut past = channel(-1, 0);
-    let fir: Filter<8> = filter(&[1], 0, 0);
-    assert_eq!(rt; past.reduce(&fir, &none(), 0, 2147483647), None);
-    assert_eq!(rt; past.predict(&fir, &none()), -1);
+    assert_eq!(rt; past.differences()[0], 1);
 }
 
 #[test]
 fn takes_blocks(rt: HostRuntime) {
     let fir: Filter<8> = filter(&[2, -1], 0, 0);
     let samples = [5, 9, 13, 18];
-    let mut residuals = [0; 4];
-    let mut encoder = Predictor::<8, 4>::new();
-    assert_eq!(rt;
-        encoder.residuals(&fir, &none(), 0, &samples, &mut residuals),
-        true
-    );
-    assert_eq!(rt; residuals, [5, -1, 0, 1]);
-    assert_eq!(rt;
-        encoder.reduce_block(&fir, &none(), 0, &samples, &mut residuals),
-        true
-    );
-    assert_eq!(rt; encoder.predict(&fir, &none()), 23);
+    let mut block = [0; 4];
+    let mut channel = Predictor::<8, 4>::new();
+    assert_eq!(rt; channel.residuals(&fir, &none(), 0, &samples, &mut block), true);
+    assert_eq!(rt; block, [5, -1, 0, 1]);
+    channel.restore_block(&fir, &none(), 0, &mut block);
+    assert_eq!(rt; block, samples);
+    assert_eq!(rt; channel.predict(&fir, &none()), 23);
+    channel.reset();
+    assert_eq!(rt; channel.outputs()[0], 0);
 
-    let mut decoder = Predictor::<8, 4>::new();
-    decoder.restore_block(&fir, &none(), 0, &mut residuals);
-    assert_eq!(rt; residuals, [5, 9, 13, 18]);
-    assert_eq!(rt; decoder.predict(&fir, &none()), 23);
+    let iir: Filter<4> = filter(&[1], 0, 0);
+    let mut from_differences = [5, 3, 2];
+    channel.restore_block(&none(), &iir, 0, &mut from_differences);
+    assert_eq!(rt; from_differences, [5, 8, 5]);
+    assert_eq!(rt; channel.differences()[1], 3);
+    channel.reset();
+    let mut residuals = [0; 3];
+    assert_eq!(rt; channel.reduce_block(&none(), &iir, 0, &from_differences, &mut residuals), true);
+    assert_eq!(rt; residuals, [5, 3, 2]);
+    assert_eq!(rt; channel.outputs()[1], 8);
 }
 
 #[test]
@@ -130,4 +114,5 @@ fn keeps_the_latest(rt: HostRuntime) {
     }
     assert_eq!(rt; history.at(0), 99);
     assert_eq!(rt; history.at(2), 97);
+    assert_eq!(rt; dot(&[1, 2], &[3, 4]), 11);
 }
