@@ -34,14 +34,6 @@ pub load_falls : (p : Pace) (b : ℕ → ℕ) (n x y : ℕ) → x ≤ y → load
 load_falls p b zero x y h = omega arith
 load_falls p b (suc n) x y h = omega (arith, load_falls p b n x y h, falls_one (out_of p n) (b n) x y h)
 
--- the lengths of other units make no difference
-pub load_same : (p : Pace) (b c : ℕ → ℕ) (n x : ℕ) → ((i : ℕ) → i < n → c i ≡ b i) → load p c n x ≡ load p b n x
-load_same p b c zero x h = refl
-load_same p b c (suc n) x h =
-    let e = load_same p b c n x (λ i l. h i (omega arith)) in
-    let f = ap (λ z. cond (nat_lt x (out_of p n)) z 0) (h n (omega arith)) in
-    omega (arith, e, f)
-
 pub none_left : (p : Pace) (b : ℕ → ℕ) (k x : ℕ) → ((i : ℕ) → i < k → out_of p i ≤ x) → load p b k x ≡ 0
 none_left p b zero x h = refl
 none_left p b (suc k) x h = omega (arith, none_left p b k x (λ i l. h i (omega arith)), gone (out_of p k) (b k) x (h k (omega arith)))

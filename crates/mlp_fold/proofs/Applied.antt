@@ -112,7 +112,3 @@ are_rows Fold depth channels k m n =
     ]
 are_rows Bypass depth channels k m n = bypass_rows_fit k (omega (arith, m.shape.0))
 are_rows Side depth channels k m n = side_rows k (24 - depth) (omega (arith, m.depth_least)) (omega (arith, m.shape))
-
-pub rows_at : (mix : Mix) (depth channels k : ℕ) (rows : List MatrixRow) (steps : List ℕ) (count : ℕ) → rows ≡ rows_of mix k channels → steps ≡ steps_of mix (24 - depth) k → count ≡ channels_of k →
-    AreMixed mix depth channels → channels_of k ≤ channels → AreRows rows steps count
-rows_at mix depth channels k rows steps count e f g m n = rw (e, f, g) (are_rows mix depth channels k m n)

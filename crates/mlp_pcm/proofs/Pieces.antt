@@ -29,12 +29,6 @@ left_more size n i rest after h e l =
     let m : suc (n - (i + 1)) * size ≡ (n - (i + 1)) * size + size = grind arith in
     omega (arith, ap length e, length-drop size rest, ap (λ j. j * size) k, m)
 
-pub one_left : (size n i : ℕ) (rest : List ℕ) → i < n → (n - i) * size ≤ length rest → size ≤ length rest
-one_left size n i rest h l =
-    let k : n - i ≡ suc (n - (i + 1)) = omega arith in
-    let m : suc (n - (i + 1)) * size ≡ (n - (i + 1)) * size + size = grind arith in
-    omega (arith, ap (λ j. j * size) k, m)
-
 -- a sample is put into a row
 pub row_more : (value : List ℕ → ℤ) (size n i : ℕ) (row : List ℤ) (rest after : List ℕ) (all : List ℤ) → i < n → i < length row → after ≡ drop size rest
     → take i row ++ pieces value size (n - i) rest ≡ all → take (i + 1) (set row i (value rest)) ++ pieces value size (n - (i + 1)) after ≡ all

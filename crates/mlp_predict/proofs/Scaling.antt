@@ -47,14 +47,6 @@ dot-zeros [] (v ∷ vs) (suc n) = let e : dot (replicate n (pos 0)) vs ≡ pos 0
 dot-zeros (c ∷ cs) [] n = refl
 dot-zeros (c ∷ cs) (v ∷ vs) n = ap (λ z. c *ℤ v +ℤ z) (dot-zeros cs vs n)
 
--- zeros are coefficients too
-pub small_behind : (cs : List ℤ) (n : ℕ) → All IsCoefficient cs → All IsCoefficient (cs ++ replicate n (pos 0))
-small_behind [] zero h k d l = absurd (omega arith)
-small_behind [] (suc n) h zero d l = record { low = omega (arith, ints); high = omega (arith, ints) }
-small_behind [] (suc n) h (suc k) d l = small_behind [] n (λ j e m. absurd (omega arith)) k d (omega arith)
-small_behind (c ∷ cs) n h zero d l = h zero d (omega arith)
-small_behind (c ∷ cs) n h (suc k) d l = small_behind cs n (λ j e m. h (suc j) e (omega arith)) k d (omega arith)
-
 pub coefficient_fits : (c : ℤ) → IsCoefficient c → FitsSigned w32 c
 coefficient_fits c h = omega (arith, ints, h.low, h.high)
 

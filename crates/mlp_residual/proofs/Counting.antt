@@ -56,12 +56,6 @@ pub record Counted (book b : ℕ) (offset : ℤ) (step : ℕ) (all left : List �
   pub whole : (m : ℕ) → TakeBits book b offset step left m → TakeBits book b offset step all (bits + m)
   pub rest : (n : ℕ) → TakeBits book b offset step all n → (m : ℕ) × TakeBits book b offset step left m × (n ≡ bits + m)
 
-pub counted_none : (book b : ℕ) (offset : ℤ) (step : ℕ) (all : List ℤ) → Counted book b offset step all all 0
-counted_none book b offset step all = record {
-  whole = λ m h. let e : m ≡ 0 + m = omega arith in subst (λ (k : ℕ). TakeBits book b offset step all k) e h;
-  rest = λ n h. (n, h, omega arith);
-}
-
 pub counted_one : (book b : ℕ) (offset : ℤ) (step : ℕ) (all left later : List ℤ) (r : ℤ) (bits n : ℕ) → left ≡ r ∷ later → Takes book b offset step r n → Counted book b offset step all left bits
     → Counted book b offset step all later (bits + n)
 unfolding TakeBits

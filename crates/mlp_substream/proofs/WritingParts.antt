@@ -24,10 +24,6 @@ pub flags_text : (due given restarts : Bool) → flag.spelling given ++ (chosen 
 unfolding flags under ruled part made
 flags_text due given restarts = ap (λ (t : List Bool). flag.spelling given ++ t) (sym (append-nil ((chosen given flag (made false)).spelling restarts)))
 
-pub judged_text : (known : Known) (format : Kind) (r : Restart) → (restart format).spelling r ≡ (judged_restart known format).spelling r
-unfolding judged_restart under ruled
-judged_text known format r = refl
-
 judged_allowed : (known : Known) (format : Kind) (r : Restart) → Allowed (judged_restart known format) r → Allowed (restart format) r
 unfolding judged_restart under ruled
 judged_allowed known format r a = record { fits = a.fits; meets = a.meets.0.0.0 }
