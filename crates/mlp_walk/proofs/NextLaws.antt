@@ -4,14 +4,13 @@ use Rattle.std.proofs.lemmas.Bool.{cases_lt, lt-leb, le-leb}
 use Rattle.mlp_syntax.specs.declared.fault.Broken.{Broken}
 use Rattle.mlp_syntax.specs.declared.fault.Fault.{Fault}
 use Rattle.mlp_bits.specs.Bits.{bits_of}
-use Rattle.mlp_bits.proofs.Words.{bits_of-drop, bits_of-append}
+use Rattle.mlp_bits.proofs.Words.{bits_of-drop}
 use Rattle.mlp_bits.proofs.BitLists.{length-bits_of}
 use Rattle.mlp_layout.specs.Reading.{Read}
 use Rattle.mlp_layout.specs.Layout.{Found}
 use Rattle.mlp_layout.specs.Contents.{UnitFault}
 use Rattle.mlp_layout.specs.Streams.{Format, UnitOf, IsFormat, read_unit, outer_fault, spelling_of, rest_of, left_after, in_unit, IsNext, OuterFails, UnitFails, Begins, Exists, Has}
-use Rattle.mlp_layout.proofs.Settled.{Settled}
-use Rattle.mlp_layout.proofs.StreamLaws.{unit_sound, has_bits, begins_more, begins_one}
+use Rattle.mlp_layout.proofs.StreamLaws.{unit_sound, unit_found, unit_failed, one_has, has_bits, begins_more, begins_one}
 use Rattle.mlp_walk.specs.declared.refusal.Refusal.{Refusal}
 use Rattle.mlp_walk.specs.declared.refusal.Refusal.TheVariants as refused
 use Rattle.mlp_walk.specs.Next.{Taken, fault_of, asked, numbered, gated, next_of, TakesBytes}
@@ -206,10 +205,37 @@ module _ {L O C : Type 0} (f : Format L O C) (is : IsFormat f) where
         ok_err : {r : Refusal} → ok_of t ≡ err_of r → ⊥
         ok_err h = cc
 
-    -- more bytes change nothing
-    pub next_settled : (more : List ℕ) → Settled (f.outer left) (bits_of bytes) 0 → next_of f wanted number left (bytes ++ more) ≡ next_of f wanted number left bytes
+    -- where the outer part is read alike with more bytes, these change nothing
+    pub next_settled : (more : List ℕ) → (f.outer left).read (bits_of (bytes ++ more)) 0 ≡ (f.outer left).read (bits_of bytes) 0 → next_of f wanted number left (bytes ++ more) ≡ next_of f wanted number left bytes
     unfolding next_of
-    next_settled more s = rw (bits_of-append bytes more, s.same (bits_of more)) refl
+    next_settled more s = rw s refl
+
+    -- ---- by what is there
+
+    -- what was read passes the gate, unless the outer part tells too few presentations
+    passed : (a : Answer) → unit ≡ a → ((k have : ℕ) → asked wanted number ≡ Some k → Has f left (bits_of bytes) have → have ≤ k → ⊥) → next_of f wanted number left bytes ≡ a
+    passed a e none = elim (gate w o unit) [
+      | inl s ↦ absurd (none s.k (f.presentations s.outer.0) s.wanted (s.outer.0, outer_at left bytes s.outer s.read, refl) s.few)
+      | inr q ↦ next_is ∙ q.answer ∙ e
+    ]
+
+    pub next_found : (u : UnitOf O C) → IsNext f left (bits_of bytes) u → ((k have : ℕ) → asked wanted number ≡ Some k → Has f left (bits_of bytes) have → have ≤ k → ⊥)
+        → next_of f wanted number left bytes ≡ ok_of (record { size = length (spelling_of f left u) / 8; unit = u })
+    next_found u next none =
+        let read = unit_found f is left (bits_of bytes) u next in
+        passed (ok_of (record { size = length (spelling_of f left u) / 8; unit = u })) (ap (numbered f number) read) none
+
+    pub next_failed : (d : UnitFault) → UnitFails f left (bits_of bytes) d → ((k have : ℕ) → asked wanted number ≡ Some k → Has f left (bits_of bytes) have → have ≤ k → ⊥)
+        → next_of f wanted number left bytes ≡ err_of (refused.Fault (fault_of number d))
+    next_failed d fails none = passed (err_of (refused.Fault (fault_of number d))) (ap (numbered f number) (unit_failed f is left (bits_of bytes) d fails)) none
+
+    pub next_lacks : (k have : ℕ) → asked wanted number ≡ Some k → Has f left (bits_of bytes) have → have ≤ k → next_of f wanted number left bytes ≡ err_of (refused.NoPresentation have)
+    next_lacks k have e has few = elim (gate w o unit) [
+      | inl s ↦ next_is ∙ s.answer ∙ ap (λ (n : ℕ). err_of (refused.NoPresentation n)) (one_has f is left (bits_of bytes) (f.presentations s.outer.0) have (s.outer.0, outer_at left bytes s.outer s.read, refl) has)
+      | inr q ↦ (let found = (is.outer_is left).found (bits_of bytes) 0 has.0 has.1 in
+          let t : k < f.presentations has.0 = subst (Tells k) found (q.tells k e) in
+          absurd (omega (arith, t, few, has.2)))
+    ]
 
   module _ (b : TakesBytes f) where
     from_read : (number : ℕ) (left : L) (bytes : List ℕ) (r : Result (UnitOf O C × ℕ) UnitFault) → ReadUnit left bytes ≡ r → (t : Taken O C) → numbered f number r ≡ ok_of t → FromUnit left bytes t

@@ -1,0 +1,5 @@
+pub mod Working
+pub mod Answers
+pub mod Works
+pub mod Reading
+pub mod Follows

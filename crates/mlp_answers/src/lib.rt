@@ -1,0 +1,7 @@
+//! What any command that reads a stream's units answers to an input: one answer, and a session that gives it.
+//! The theorems are lemmas of `proofs/`, since they are over any format, command and session.
+#![tactic(auto)]
+
+mod refusal;
+
+pub use refusal::refusal_of;

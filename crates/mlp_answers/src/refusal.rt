@@ -1,0 +1,15 @@
+//! What is refused of a stream, as a session refuses it.
+ghost use Rattle.std.specs.Prelude.{◌≡◌};
+ghost use Rattle.mlp_answers.specs.Reading.{refusal_of};
+
+use mlp_stream::Refusal;
+
+/// What whoever reads a stream's units refuses, a session refuses.
+pub fn refusal_of(refusal: mlp_walk::Refusal) -> Refusal
+    ensures { result ≡ refusal_of refusal }
+{
+    match refusal {
+        mlp_walk::Refusal::Fault(fault) => Refusal::Fault(fault),
+        mlp_walk::Refusal::NoPresentation { have } => Refusal::NoPresentation { have },
+    }
+}
