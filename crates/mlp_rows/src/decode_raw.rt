@@ -28,9 +28,11 @@ fn decodes_channels_in_either_order(rt: HostRuntime) -> Result<(), Fail> {
     let alloc = rt.alloc();
     // matrix channel 0 goes to output channel 1, and the restart's check is that of these bits; the padding may be anything
     let mut unit = raw_unit(alloc)?;
-    unit[49] ^= 0x82;
-    unit[50] = 0x1A;
-    unit[293] = 0xFF;
+    for (place, other) in [(49, 0x81), (50, 0x1A), (293, 0xFF)] {
+        if let Some(byte) = unit.get_mut(place) {
+            *byte = other;
+        }
+    }
     let exchanged = run_over(alloc, WORDS, &unit, &WHOLE)?;
     assert_eq!(rt; exchanged.status, 0);
     assert_eq!(rt;
