@@ -86,7 +86,10 @@ fn takes_blocks(rt: HostRuntime) {
     let samples = [5, 9, 13, 18];
     let mut block = [0; 4];
     let mut channel = Predictor::<8, 4>::new();
-    assert_eq!(rt; channel.residuals(&fir, &none(), 0, &samples, &mut block), true);
+    assert_eq!(rt;
+        channel.residuals(&fir, &none(), 0, &samples, &mut block),
+        true
+    );
     assert_eq!(rt; block, [5, -1, 0, 1]);
     channel.restore_block(&fir, &none(), 0, &mut block);
     assert_eq!(rt; block, samples);
@@ -101,7 +104,10 @@ fn takes_blocks(rt: HostRuntime) {
     assert_eq!(rt; channel.differences()[1], 3);
     channel.reset();
     let mut residuals = [0; 3];
-    assert_eq!(rt; channel.reduce_block(&none(), &iir, 0, &from_differences, &mut residuals), true);
+    assert_eq!(rt;
+        channel.reduce_block(&none(), &iir, 0, &from_differences, &mut residuals),
+        true
+    );
     assert_eq!(rt; residuals, [5, 3, 2]);
     assert_eq!(rt; channel.outputs()[1], 8);
 }
