@@ -36,7 +36,7 @@ pub no_bits : (z : ℤ) → (signed_of 0).spelling z ≡ []
 unfolding signed_of seen number_of
 no_bits z = no_spelling (unsigned 0 z)
 
-stands_for : (w : ℕ) (o : Option ℕ) (z : ℤ) → FitsAs (signed w) (λ n. n < 2 ^ w) o z → HasBits w z
+pub stands_for : (w : ℕ) (o : Option ℕ) (z : ℤ) → FitsAs (signed w) (λ n. n < 2 ^ w) o z → HasBits w z
 stands_for w None z h = absurd h
 stands_for w (Some n) z h = subst (HasBits w) h.1 (signed_fits w n h.0)
 

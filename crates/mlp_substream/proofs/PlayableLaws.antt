@@ -108,6 +108,7 @@ block_plays place known ok force so_far due h fs lawful a =
     record {
       restarts = head_due place known due force h parts.head;
       head = head_fits place known due force h parts.head;
+      least = c.least;
       count = against_count (after_head place force h) h.frames fs parts.frames;
       codes = are_coded place (after_head place force h) h.frames fs c.lawful parts.steps parts.frames;
     }

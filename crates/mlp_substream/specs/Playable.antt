@@ -1,5 +1,5 @@
 -- What a player needs of the blocks of a segment.
-use Rattle.std.specs.Prelude.{◌≡◌, ℕ, ◌+◌, ◌-◌, Bool, false, IsTrue, List, [], ◌∷◌, length, take, drop, Option, is_some, IfSome}
+use Rattle.std.specs.Prelude.{◌≡◌, ℕ, ◌+◌, ◌-◌, ◌≤◌, Bool, false, IsTrue, List, [], ◌∷◌, length, take, drop, Option, is_some, IfSome}
 use Rattle.std.specs.List.{All}
 use Rattle.std.specs.Option.{IsSomeAnd}
 use Rattle.arrayvec.specs.ArrayVec.{array_vec_len}
@@ -23,10 +23,11 @@ pub record AreCoded (s : State) (codes : List FrameCode) : Type 0 where
   pub steps : IsTrue (steps_fit s)
   pub channels : All (λ f. array_vec_len f.codes ≡ s.restart.max + 1 - s.restart.min) codes
 
--- a block of these frames: it has a restart exactly where one is due, and something is in force behind its head
+-- a block of these frames, eight at least: it has a restart exactly where one is due, and something is in force behind its head
 pub record IsPlayable (place : Place) (due : Bool) (force : Option State) (h : BlockHead) (frames : List FrameCode) : Type 0 where
   pub restarts : is_some h.restart ≡ due
   pub head : HeadFits place force h
+  pub least : 8 ≤ h.frames
   pub count : length frames ≡ h.frames
   pub codes : IsSomeAnd (after_head place force h) (λ s. AreCoded s frames)
 
