@@ -1,2 +1,4 @@
 pub mod FirstBytes
 pub mod OpenLaws
+pub mod NextParts
+pub mod Outlines

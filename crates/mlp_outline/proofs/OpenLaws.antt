@@ -1,22 +1,23 @@
 -- Where the next unit is all there, or its length is wrong, more bytes change nothing; where it isn't, no unit is there.
-use Rattle.std.proofs.Common.{◌≡◌, ℕ, ◌*◌, ◌≤◌, leb, ltb, Bool, true, false, cond, List, [], ◌∷◌, ◌++◌, length, take, drop, Ok, Err, Option, refl, sym, ap, ◌∙◌, arith}
+use Rattle.std.proofs.Common.{◌≡◌, ℕ, ◌*◌, ◌≤◌, ◌<◌, leb, ltb, Bool, true, false, cond, List, [], ◌∷◌, ◌++◌, length, take, drop, Ok, Err, Option, refl, sym, ap, ◌∙◌, arith}
 use Rattle.std.proofs.lemmas.Bool.{leb-true, le-leb, le-ltb}
 use Rattle.std.proofs.lemmas.Bool.Decides.{nat_tests}
-use Rattle.std.specs.Prelude.{◌&&◌, ◌||◌}
-use Rattle.std.proofs.lemmas.List.{length-append}
+use Rattle.std.specs.Prelude.{◌&&◌}
+use Rattle.std.proofs.lemmas.List.{length-append, length-drop, take-append-le, drop-append-le}
 use Rattle.mlp_syntax.specs.declared.major.MajorSync.{MajorSync}
 use Rattle.mlp_syntax.specs.declared.unit.UnitHead.{UnitHead}
 use Rattle.mlp_syntax.specs.declared.fault.Field.TheVariants as rule
 use Rattle.mlp_bits.specs.Bits.{number}
 use Rattle.mlp_layout.specs.Reading.{Read, broken, number_at}
-use Rattle.mlp_layout.specs.Layout.{Layout, Found, behind, Rule, number_of, ruled, whole, part, made, renamed, sized}
+use Rattle.mlp_layout.specs.Layout.{Layout, Found, behind, Rule, number_of, ruled, whole, part, made, sized}
 use Rattle.mlp_layout.specs.Combined.{under}
 use Rattle.mlp_layout.proofs.Standing.{Stands-front}
-use Rattle.mlp_layout.proofs.Settled.{Settled, under_settled, ruled_settled, part_settled, sized_settled}
+use Rattle.mlp_layout.proofs.Settled.{Settled, under_settled, part_settled, sized_settled}
 use Rattle.mlp_bits.specs.Bits.{bits_of}
 use Rattle.mlp_bits.proofs.BitLists.{length-bits_of}
 use Rattle.mlp_bits.proofs.Words.{bits_of-append}
-use Rattle.mlp_outline.specs.Next.{words_of, is_open, ClosedIsDecided, OpenHasNone}
+use Rattle.mlp_bits.proofs.Fields.{number-take}
+use Rattle.mlp_outline.specs.Next.{words_of, is_open, ClosedIsDecided, OpenHasNone, OpenByBits, ClosedStays}
 use Rattle.mlp_unit.specs.AccessUnit.{AccessUnit, head, head_fields, parts, rules, access_unit}
 use Rattle.mlp_unit.proofs.UnitLaws.{head_is, head_takes}
 use Rattle.mlp_unit.proofs.HeadReading.{head_settled}
@@ -139,3 +140,45 @@ open_none first next open_is u f =
     let no = not_open next (omega (arith, w.four, length-bits_of next)) (omega (arith, w.whole, length-bits_of next)) in
     let e : true ≡ false = sym open_is ∙ no in
     absurd cc
+
+-- ---- the test by itself
+
+pub open_bits : (xs ys : List ℕ) → OpenByBits xs ys
+open_bits xs ys e =
+    let long : length xs ≡ length ys = omega (arith, ap length e, length-bits_of xs, length-bits_of ys) in
+    rw (long, e) refl
+
+pub open_empty : is_open [] ≡ true
+open_empty = refl
+
+few_words : (bytes : List ℕ) → words_of bytes < 4096
+few_words bytes = number-take 12 (drop 4 (bits_of bytes))
+
+pub open_enough : (bytes : List ℕ) → 8190 ≤ length bytes → is_open bytes ≡ false
+open_enough bytes enough = not_open bytes (omega arith) (omega (arith, few_words bytes))
+
+-- the first four bytes tell the length
+words_more : (all more : List Bool) → 32 ≤ length all → words (all ++ more) ≡ words all
+words_more all more four =
+    let at : drop 4 (all ++ more) ≡ drop 4 all ++ more = drop-append-le 4 all more (omega arith) in
+    let front : take 12 (drop 4 all ++ more) ≡ take 12 (drop 4 all) = take-append-le 12 (drop 4 all) more (omega (arith, length-drop 4 all)) in
+    ap (λ (t : List Bool). number (take 12 t)) at ∙ ap number front
+
+pub closed_stays : (next more : List ℕ) → ClosedStays next more
+closed_stays next more e = by_words (leb 2 (words_of next)) refl
+  where
+    closed : Closed (bits_of next)
+    closed = open_closed next e
+
+    same : words_of (next ++ more) ≡ words_of next
+    same = ap words (bits_of-append next more) ∙ words_more (bits_of next) (bits_of more) closed.four
+
+    four : 4 ≤ length (next ++ more)
+    four = omega (arith, length-append next more, closed.four, length-bits_of next)
+
+    by_words : (b : Bool) → leb 2 (words_of next) ≡ b → is_open (next ++ more) ≡ false
+    by_words true t = not_open (next ++ more) four (omega (arith, same, closed.whole (leb-true 2 (words_of next) t), length-append next more, length-bits_of next))
+    by_words false t =
+        let a : ltb (length (next ++ more)) 4 ≡ false = le-ltb _ _ four in
+        let b : leb 2 (words_of (next ++ more)) ≡ false = ap (leb 2) same ∙ t in
+        rw (a, b) refl

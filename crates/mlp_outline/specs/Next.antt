@@ -22,3 +22,11 @@ ClosedIsDecided first next = is_open next ≡ false → (more : List ℕ) → un
 -- where it does, no unit stands at their front
 abbrev pub OpenHasNone : Option MajorSync → List ℕ → Type 0
 OpenHasNone first next = is_open next ≡ true → (u : AccessUnit) → Found (access_unit first) (bits_of next) 0 u → ⊥
+
+-- the test sees bits alone
+abbrev pub OpenByBits : List ℕ → List ℕ → Type 0
+OpenByBits xs ys = bits_of xs ≡ bits_of ys → is_open xs ≡ is_open ys
+
+-- what is decided stays so with more bytes
+abbrev pub ClosedStays : List ℕ → List ℕ → Type 0
+ClosedStays next more = is_open next ≡ false → is_open (next ++ more) ≡ false

@@ -3,6 +3,8 @@
 
 pub mod laws;
 mod next;
+mod outliner;
 
 pub use mlp_unit::next_outer;
 pub use next::is_open;
+pub use outliner::{Outliner, copied_sync, keep_first, outer_refusal};
