@@ -1,0 +1,4 @@
+pub mod Channels
+pub mod Columns
+pub mod Given
+pub mod Playing
