@@ -1,0 +1,94 @@
+//! The samples of frames, at their places.
+ghost use Rattle.std.specs.Prelude.{◌≡◌, ◌<◌, ◌≤◌, length, All, map, bit_xor};
+ghost use Rattle.mlp_output.specs.Output.{samples_of, placed, check_from, check_of};
+
+use mlp_arith::sample24;
+
+/// Puts the samples of one frame at their places, and gives their check.
+#[inline(always)]
+fn put_frame(shifts: &[u8], assign: &[u8], frame: &[i32; 10], row: &mut [i32; 8]) -> u32
+    requires shifts { All (λ shift. shift ≤ 7) shifts.now }
+    requires places { All (λ a. a ≤ 7) assign.now }
+    requires same { length assign.now ≡ length shifts.now }
+    requires few { length shifts.now ≤ 8 }
+    ensures row { row.new ≡ placed assign.now (samples_of shifts.now frame.now) }
+    ensures check { result ≡ check_from 0 (samples_of shifts.now frame.now) }
+{
+    *row = [0; 8];
+    let mut check = 0;
+    for c in (0..shifts.len()).rev() {
+        let sample = sample24(frame[c], shifts[c]);
+        row[usize::from(assign[c])] = sample;
+        check ^= (sample.cast_unsigned() & 0xff_ffff) << c;
+    }
+    check
+}
+
+/// .. of many frames, and adds them to the check.
+#[inline(always)]
+fn put_all(
+    shifts: &[u8],
+    assign: &[u8],
+    frames: &[[i32; 10]],
+    rows: &mut [[i32; 8]],
+    check: &mut u32,
+)
+    requires shifts { All (λ shift. shift ≤ 7) shifts.now }
+    requires places { All (λ a. a ≤ 7) assign.now }
+    requires same { length assign.now ≡ length shifts.now }
+    requires few { length shifts.now ≤ 8 }
+    requires room { length rows.old ≡ length frames.now }
+    ensures rows { rows.new ≡ map (placed assign.now) (map (samples_of shifts.now) frames.now) }
+    ensures check { check.new ≡ check_of check.old (map (samples_of shifts.now) frames.now) }
+{
+    let mut running = *check;
+    for i in 0..frames.len() {
+        running ^= put_frame(shifts, assign, &frames[i], &mut rows[i]);
+    }
+    *check = running;
+}
+
+/// .. of `C` channels.
+fn put_each<const C: usize>(
+    shifts: &[u8],
+    assign: &[u8],
+    frames: &[[i32; 10]],
+    rows: &mut [[i32; 8]],
+    check: &mut u32,
+)
+    requires shifts { All (λ shift. shift ≤ 7) shifts.now }
+    requires places { All (λ a. a ≤ 7) assign.now }
+    requires count { length shifts.now ≡ C }
+    requires same { length assign.now ≡ C }
+    requires few { C ≤ 8 }
+    requires room { length rows.old ≡ length frames.now }
+    ensures rows { rows.new ≡ map (placed assign.now) (map (samples_of shifts.now) frames.now) }
+    ensures check { check.new ≡ check_of check.old (map (samples_of shifts.now) frames.now) }
+{
+    put_all(&shifts[..C], &assign[..C], frames, rows, check);
+}
+
+/// Puts the samples of each frame at their places, and adds them to the check. The usual numbers of channels have loops
+/// of their own.
+pub fn put_samples(
+    shifts: &[u8],
+    assign: &[u8],
+    frames: &[[i32; 10]],
+    rows: &mut [[i32; 8]],
+    check: &mut u32,
+)
+    requires shifts { All (λ shift. shift ≤ 7) shifts.now }
+    requires places { All (λ a. a ≤ 7) assign.now }
+    requires same { length assign.now ≡ length shifts.now }
+    requires few { length shifts.now ≤ 8 }
+    requires room { length rows.old ≡ length frames.now }
+    ensures rows { rows.new ≡ map (placed assign.now) (map (samples_of shifts.now) frames.now) }
+    ensures check { check.new ≡ check_of check.old (map (samples_of shifts.now) frames.now) }
+{
+    match shifts.len() {
+        2 => put_each::<2>(shifts, assign, frames, rows, check),
+        6 => put_each::<6>(shifts, assign, frames, rows, check),
+        8 => put_each::<8>(shifts, assign, frames, rows, check),
+        _ => put_all(shifts, assign, frames, rows, check),
+    }
+}
