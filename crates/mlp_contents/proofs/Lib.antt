@@ -1,0 +1,11 @@
+pub mod FormatLaws
+pub mod Near
+pub mod NearSegments
+pub mod Coverage
+pub mod ChannelLists
+pub mod ReadSegments
+pub mod Behind
+pub mod ReadingLoop
+pub mod TakenLaws
+pub mod Giving
+pub mod Places

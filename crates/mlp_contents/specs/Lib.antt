@@ -1,0 +1,5 @@
+pub mod Known
+pub mod Frames
+pub mod Units
+pub mod Inner
+pub mod Read
