@@ -1,0 +1,11 @@
+pub mod HeardLaws
+pub mod BlockRuns
+pub mod UnitParts
+pub mod SyncLaws
+pub mod Intervals
+pub mod Coders
+pub mod UnitLaws
+pub mod Steps
+pub mod Leavings
+pub mod FirstRestarts
+pub mod Streams
