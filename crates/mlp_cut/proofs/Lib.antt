@@ -1,0 +1,5 @@
+pub mod Pieces
+pub mod CutLaws
+pub mod OwnBytes
+pub mod CutterLaws
+pub mod CutterSteps

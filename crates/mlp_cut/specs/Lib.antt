@@ -1,0 +1,5 @@
+pub mod Cut
+pub mod Cutting
+pub mod Cutter
+pub mod SessionLaws
+pub mod Laws
