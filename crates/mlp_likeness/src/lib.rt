@@ -1,0 +1,4 @@
+//! Streams that differ where no sample looks.
+#![tactic(auto)]
+
+pub mod laws;
