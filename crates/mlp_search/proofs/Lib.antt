@@ -1,0 +1,11 @@
+pub mod CodeLaws
+pub mod Scanning
+pub mod Ranks
+pub mod FilterLaws
+pub mod UsableFilters
+pub mod PairLaws
+pub mod CostLaws
+pub mod CandidateLaws
+pub mod ChosenLaws
+pub mod BehindLaws
+pub mod GivenLaws

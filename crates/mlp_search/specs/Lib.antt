@@ -1,0 +1,4 @@
+pub mod Candidates
+pub mod Given
+pub mod Cost
+pub mod Least
