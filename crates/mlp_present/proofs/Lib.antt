@@ -1,9 +1,3 @@
-pub mod FormLaws
-pub mod FirstBytes
-pub mod RowReading
-pub mod SegmentReading
-pub mod Closed
-pub mod Framed
-pub mod NextUnit
-pub mod UnitMeaning
-pub mod AnswerLaws
+pub mod Joined
+pub mod WaitLaws
+pub mod Histories

@@ -1,86 +1,143 @@
--- What a decoder holds, and what it makes of the next unit.
-use Rattle.std.specs.Prelude.{ℕ, ◌*◌, ◌/◌, ◌==◌, nat_lt, nat_le, ◌&&◌, ◌||◌, Bool, if◌then◌else◌, List, length, take, drop, Result, Ok, Err, Option, Some, None, is_none, ℤ}
-use Rattle.mlp_syntax.specs.declared.fault.Fault.{Fault}
-use Rattle.mlp_bits.specs.Bits.{bits_of, number}
-use Rattle.mlp_layout.specs.Reading.{Read}
-use Rattle.mlp_layout.specs.Contents.{UnitFault}
-use Rattle.mlp_layout.specs.Streams.{read_unit, outer_fault}
-use Rattle.mlp_unit.specs.AccessUnit.{AccessUnit}
-use Rattle.mlp_present.specs.declared.refusal.Refusal.{Refusal}
-use Rattle.mlp_present.specs.declared.refusal.Refusal.TheVariants as refused
-use Rattle.mlp_present.specs.FirstForm.{RawUnit, Left, start, after, not_built, outer_part, first_form}
-use Rattle.mlp_present.specs.Samples.{rows_of}
+-- Decoding a presentation, one unit after the other.
+use Rattle.std.specs.Prelude.{◌≡◌, ℕ, ◌+◌, ◌==◌, ◌<◌, ◌≤◌, nat_lt, ◌&&◌, Bool, List, [], ◌∷◌, length, take, is_none, is_some, Option, Some, None, option_map, Result, Ok, Err, if◌then◌else◌, ℤ}
+use Rattle.mlp_syntax.specs.declared.fault.Field.TheVariants as rule
+use Rattle.mlp_syntax.specs.declared.major.MajorSync.{MajorSync}
+use Rattle.mlp_syntax.specs.declared.unit.Outer.{Outer}
+use Rattle.mlp_unit.specs.AccessUnit.{AccessUnit, substreams_of}
+use Rattle.mlp_unit.specs.Shape.{body_place, unit_with}
+use Rattle.mlp_unit.specs.Written.{FirstUsable}
+use Rattle.mlp_walk.specs.declared.refusal.Refusal.{Refusal}
+use Rattle.mlp_walk.specs.declared.refusal.Refusal.TheVariants as refused
+use Rattle.mlp_walk.specs.Next.{next_of}
+use Rattle.mlp_outline.specs.Next.{is_open}
+use Rattle.mlp_present.specs.Parts.{Next, HasOuter}
+use Rattle.mlp_channels.specs.Channels.{Coded}
+use Rattle.mlp_contents.specs.Units.{Left, Unit_of, coded_at, start, whole, after, frames_out}
+use Rattle.mlp_contents.specs.Inner.{Inner, left_of, channels_of, IsKept}
 
--- a decoder of presentation k, what the units that it took leave, and the refusal if one came
+-- ---- what a decoder knows
+
+-- the presentation, the number of units that it took and what they leave; of the latest unit the outer part, and the
+-- output timing of substream 0 where it has a restart; the number of output channels, and what was refused
 pub record Held : Type 0 where
   pub k : ℕ
+  pub units : ℕ
   pub left : Left
+  pub latest : Option Outer
+  pub timing : Option ℕ
+  pub channels : ℕ
   pub refusal : Option Refusal
+
+-- .. by the parts of a decoder: the first major sync is kept apart from what else units leave
+abbrev pub held_of : ℕ → Option MajorSync → Inner → Option Outer → Option ℕ → ℕ → Option Refusal → Held
+held_of units first x latest timing channels refusal = record {
+  k = x.last;
+  units = units;
+  left = left_of first x;
+  latest = latest;
+  timing = timing;
+  channels = channels;
+  refusal = refusal;
+}
 
 -- before the first unit
 abbrev pub opened : ℕ → Held
-opened k = record { k = k; left = start; refusal = None }
+opened k = record { k = k; units = 0; left = start k; latest = None; timing = None; channels = 0; refusal = None }
 
--- what comes of a unit: its length in bytes, its rows, and what it leaves
-pub record Taken : Type 0 where
-  pub size : ℕ
-  pub rows : List (List ℤ)
-  pub left : Left
+-- an outer part, with the byte of the unit at which its segments begin
+abbrev pub outer_of : AccessUnit → Outer
+outer_of u = record { head = u.head; major = u.major; entries = record { items = u.entries }; body = body_place u }
 
--- a fault of the next unit
-abbrev pub fault_of : Left → UnitFault → Fault
-fault_of left e = record { unit = left.units; substream = e.substream; field = e.field; bit = e.bit }
+-- the output timing of substream 0, in whose segment a restart begins where the unit has a major sync
+abbrev pub timing_by : Option MajorSync → List Coded → Option ℕ
+timing_by None xs = None
+timing_by (Some m) xs = option_map (λ s. s.restart.output_timing) (coded_at xs 0).force
 
-abbrev pub taken : Left → Result (RawUnit × ℕ) UnitFault → Result Taken Refusal
-taken left (Ok u) = Ok (record { size = u.1 / 8; rows = rows_of left u.0; left = after left u.0 })
-taken left (Err e) = Err (refused.Fault (fault_of left e))
+abbrev pub channels_by : ℕ → Left → ℕ
+channels_by k left = channels_of (coded_at left.substreams k).force
 
--- the outer part of the first unit tells how many presentations there are
-abbrev pub have : AccessUnit → ℕ
-have o = first_form.presentations o
+-- behind one more unit, which leaves this
+abbrev pub with_left : Held → AccessUnit → Left → Held
+with_left held o left = record {
+  k = held.k;
+  units = held.units + 1;
+  left = left;
+  latest = Some (outer_of o);
+  timing = timing_by o.major left.substreams;
+  channels = channels_by held.k left;
+  refusal = None;
+}
 
-abbrev pub with_presentation : ℕ → Left → Read AccessUnit → Result Taken Refusal → Result Taken Refusal
-with_presentation k left (Ok o) unit = if is_none left.sync && nat_le (have o.0) k then Err (refused.NoPresentation (have o.0)) else unit
-with_presentation k left (Err e) unit = unit
+abbrev pub after_unit : Held → Unit_of → Held
+after_unit held u = with_left held u.outer (after held.k held.left u)
 
-abbrev pub unless_refused : {A : Type 0} → Option Refusal → Result A Refusal → Result A Refusal
-unless_refused None r = r
-unless_refused (Some refusal) r = Err refusal
+-- behind these units
+unfoldable pub after_units : Held → List Unit_of → Held
+after_units held [] = held
+after_units held (u ∷ us) = after_units (after_unit held u) us
 
--- what comes of the next unit of these bytes, or the refusal
-unfoldable pub next_of : ℕ → Left → List ℕ → Result Taken Refusal
-next_of k left bytes = with_presentation k left ((outer_part left.sync).read (bits_of bytes) 0) (taken left (read_unit first_form left (bits_of bytes)))
+-- ---- the next unit
 
-abbrev pub next_unit : Held → List ℕ → Result Taken Refusal
-next_unit held bytes = unless_refused held.refusal (next_of held.k held.left bytes)
+abbrev pub unless_refused : Option Refusal → Next → Next
+unless_refused None next = next
+unless_refused (Some refusal) next = Err refusal
 
--- what is held behind it
-abbrev pub after_unit : Held → Result Taken Refusal → Held
-after_unit held (Ok t) = record held { left = t.left }
-after_unit held (Err refusal) = record held { refusal = Some refusal }
+-- what comes of it: behind a refusal the same one
+abbrev pub next_unit : Held → List ℕ → Next
+next_unit held next = unless_refused held.refusal (next_of (whole held.k) (Some held.k) held.units held.left next)
 
--- at the end of the stream
-abbrev pub last_word : Held → Result (Unit {0}) Refusal
-last_word held = unless_refused held.refusal (if held.left.units == 0 then Err (refused.Fault (fault_of start (outer_fault not_built))) else Ok tt)
+-- the next unit has so many bytes and this outer part, these are the frames that it gives, and this is known behind it
+pub record GivesUnit (held : Held) (next : List ℕ) (size : ℕ) (frames : List (List ℤ)) (new : Held) : Type 0 where
+  pub unit : Unit_of
+  pub next_is : next_unit held next ≡ Ok (record { size = size; unit = unit })
+  pub frames_are : frames ≡ frames_out held.k held.left unit
+  pub held_is : new ≡ after_unit held unit
+  pub outer : Outer
+  pub outer_is : unit.outer ≡ unit_with (take size next) outer
+  pub latest_is : new.latest ≡ Some outer
+  pub has_outer : HasOuter held.left.ended held.left.sync next size outer
 
--- ---- how many bytes the next unit depends on
+-- a refusal is kept; of what units leave only the first major sync is still known
+pub record KeepsRefusal (held new : Held) (refusal : Refusal) : Type 0 where
+  pub refusal_is : new.refusal ≡ Some refusal
+  pub k : new.k ≡ held.k
+  pub units : new.units ≡ held.units
+  pub sync : new.left.sync ≡ held.left.sync
+  pub latest : new.latest ≡ held.latest
+  pub timing : new.timing ≡ held.timing
+  pub channels : new.channels ≡ held.channels
 
--- the length in words that the first bytes tell
-abbrev pub words_of : List ℕ → ℕ
-words_of bytes = number (take 12 (drop 4 (bits_of bytes)))
+-- does the next unit depend on bytes behind these? Behind a terminator one byte decides
+abbrev pub is_open_behind : Left → List ℕ → Bool
+is_open_behind left next = if left.ended then nat_lt (length next) 1 else is_open next
 
--- does the next unit depend on bytes behind these?
-abbrev pub is_open : List ℕ → Bool
-is_open bytes = nat_lt (length bytes) 4 || (nat_le 2 (words_of bytes) && nat_lt (length bytes) (2 * words_of bytes))
-
+-- behind a refusal nothing is waited for
 abbrev pub waits : Held → List ℕ → Bool
-waits held bytes = is_none held.refusal && is_open bytes
+waits held next = is_none held.refusal && is_open_behind held.left next
 
--- is all of a unit there?
-abbrev pub is_whole : List ℕ → Bool
-is_whole bytes = nat_le 4 (length bytes) && (nat_le 2 (words_of bytes) && nat_le (2 * words_of bytes) (length bytes))
+-- ---- the end
 
--- what a call answers, puts out and leaves
-abbrev pub answered : Result ℕ Refusal → List (List ℤ) → Left → Result Taken Refusal
-answered (Ok n) rows left = Ok (record { size = n; rows = rows; left = left })
-answered (Err refusal) rows left = Err refusal
+abbrev pub no_unit : Refusal
+no_unit = refused.Fault (record { unit = 0; substream = 0; field = rule.UnitHeader; bit = 0 })
+
+abbrev pub last_of : ℕ → Option Refusal → Result (Unit {0}) Refusal
+last_of units None = if units == 0 then Err no_unit else Ok tt
+last_of units (Some refusal) = Err refusal
+
+-- may the stream end here? A unit was taken, and nothing was refused
+abbrev pub last_word : Held → Result (Unit {0}) Refusal
+last_word held = last_of held.units held.refusal
+
+-- ---- what holds of a decoder between its calls
+
+-- the number of units, the first major sync, what else units leave, the latest outer part, and what was refused
+pub record IsDecoding (units : ℕ) (first : Option MajorSync) (inner : Inner) (latest : Option Outer)
+    (refusal : Option Refusal) : Type 0 where
+  pub most : inner.last ≤ 2
+  pub usable : FirstUsable first
+  -- the presentation exists
+  pub begins : units ≡ 0 → first ≡ None
+  pub told : 0 < units → inner.last < substreams_of first
+  pub latest_is : is_some latest ≡ nat_lt 0 units
+  -- a fault in a segment leaves some substreams before the unit and some behind it
+  pub kept : refusal ≡ None → IsKept first inner

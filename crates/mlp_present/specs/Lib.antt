@@ -1,4 +1,3 @@
-pub mod FirstForm
-pub mod Samples
 pub mod Decoding
-pub mod Meaning
+pub mod Laws
+pub mod Parts

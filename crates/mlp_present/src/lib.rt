@@ -1,13 +1,12 @@
-//! The decoder of a presentation.
+//! The decoder of a presentation: units in, frames out, or the first rule that fails.
+//!
+//! Source: the MLP and Dolby TrueHD bitstream syntax and decoding process as publicly documented.
 #![tactic(auto)]
 
 mod decoder;
-mod form;
-mod framing;
-mod kept;
 pub mod laws;
-mod refusal;
-mod segment;
+mod parts;
 
 pub use decoder::Decoder;
-pub use refusal::Refusal;
+pub use mlp_contents::laws::law_one;
+pub use mlp_walk::Refusal;

@@ -1,6 +1,6 @@
-//! The command `decode-raw` over raw stereo streams.
+//! The command `decode-raw` over stereo streams.
 use crate::runs::{Edge, WHOLE, run_over};
-use crate::streams::{raw_samples, raw_unit, raw_units};
+use crate::streams::{ENDED, SILENT, raw_samples, raw_unit, raw_units};
 use std::test::Fail;
 
 const WORDS: &str = "decode-raw --presentation 0";
@@ -42,28 +42,139 @@ fn decodes_channels_in_either_order(rt: HostRuntime) -> Result<(), Fail> {
     Ok(())
 }
 
+/// A byte of the stream is changed, and some of its bytes are left.
 #[test]
-fn refuses_what_it_is_not_built_for(rt: HostRuntime) -> Result<(), Fail> {
-    let alloc = rt.alloc();
-    let unit = raw_unit(alloc)?;
-    let line = b"bad stream: unit 0, substream 0, NotBuilt, bit 0\n";
-    for length in [293, 3, 0] {
-        let mut front = raw_unit(alloc)?;
-        front.truncate(length);
-        let cut = run_over(alloc, WORDS, &front, &WHOLE)?;
-        assert_eq!(rt; cut.status, 1);
-        assert_eq!(rt; cut.output.len(), 0);
-        assert_eq!(rt; cut.line.as_slice(), line.as_slice());
+fn decodes_or_refuses_silence(rt: HostRuntime) -> Result<(), Fail> {
+    let cases = [
+        (0, 0xD0, 58, 240, ""),
+        (0, 0xD0, 68, 480, ""),
+        (
+            0,
+            0xD0,
+            0,
+            0,
+            "bad stream: unit 0, substream 0, UnitHeader, bit 0\n",
+        ),
+        (
+            0,
+            0xD0,
+            3,
+            0,
+            "bad stream: unit 0, substream 0, UnitHeader, bit 0\n",
+        ),
+        (
+            0,
+            0xD0,
+            57,
+            0,
+            "bad stream: unit 0, substream 0, UnitLength, bit 4\n",
+        ),
+        (
+            58,
+            0x50,
+            68,
+            240,
+            "bad stream: unit 1, substream 0, UnitParity, bit 0\n",
+        ),
+        (
+            66,
+            0xE8,
+            68,
+            240,
+            "bad stream: unit 1, substream 0, SegmentParity, bit 64\n",
+        ),
+        (
+            67,
+            0x1C,
+            68,
+            240,
+            "bad stream: unit 1, substream 0, SegmentCheck, bit 72\n",
+        ),
+    ];
+    for (place, other, left, output, line) in cases {
+        let mut stream = SILENT.to_vec(rt.alloc())?;
+        if let Some(byte) = stream.get_mut(place) {
+            *byte = other;
+        }
+        stream.truncate(left);
+        let seen = run_over(rt.alloc(), WORDS, &stream, &WHOLE)?;
+        assert_eq!(rt;
+            seen.status,
+            u8::from(!line.is_empty()),
+            "at {place} of {left}"
+        );
+        assert_eq!(rt;
+            seen.output,
+            vec![in rt.alloc(); 0; output]?,
+            "at {place} of {left}"
+        );
+        assert_eq!(rt;
+            seen.line.as_slice(),
+            line.as_bytes(),
+            "at {place} of {left}"
+        );
     }
-    let mut twice = raw_unit(alloc)?;
-    twice.extend_from_slice(&unit)?;
-    let second = run_over(alloc, WORDS, &twice, &WHOLE)?;
-    assert_eq!(rt; second.status, 1);
-    assert_eq!(rt; second.output, raw_samples(alloc)?);
+    Ok(())
+}
+
+/// A stream that ends, alone and twice; the word of its terminator that says how many frames are dropped.
+#[test]
+fn ends_behind_a_terminator(rt: HostRuntime) -> Result<(), Fail> {
+    let one = run_over(rt.alloc(), WORDS, &ENDED, &WHOLE)?;
+    assert_eq!(rt; one.status, 0);
+    assert_eq!(rt; one.output.as_slice(), [0; 6].as_slice());
+    let mut none = ENDED.to_vec(rt.alloc())?;
+    none.truncate(61);
+    none.extend_from_slice(&[0x29, 0xF6, 0x96])?;
+    let none = run_over(rt.alloc(), WORDS, &none, &WHOLE)?;
+    assert_eq!(rt; none.status, 0);
+    assert_eq!(rt; none.output.len(), 0);
+    let mut twice = ENDED.to_vec(rt.alloc())?;
+    twice.extend_from_slice(&ENDED)?;
+    let twice = run_over(rt.alloc(), WORDS, &twice, &WHOLE)?;
+    assert_eq!(rt; twice.status, 1);
+    assert_eq!(rt; twice.output.as_slice(), [0; 6].as_slice());
     assert_eq!(rt;
-        second.line.as_slice(),
-        b"bad stream: unit 1, substream 0, NotBuilt, bit 0\n".as_slice()
+        twice.line.as_slice(),
+        b"bad stream: unit 1, substream 0, AfterEnd, bit 0\n".as_slice()
     );
+    Ok(())
+}
+
+#[test]
+fn asks_for_presentations_and_bits(rt: HostRuntime) -> Result<(), Fail> {
+    let cases = [
+        (
+            "decode-raw --presentation 1",
+            8,
+            0,
+            "no presentation: 1 of 1\n",
+        ),
+        (
+            "decode-raw --presentation 0 --bits 16",
+            10,
+            0,
+            "low bits: frame 0\n",
+        ),
+        ("decode-raw --bits 24 --presentation 0", 0, 240, ""),
+        ("decode-raw --presentation 3", 2, 0, "usage\n"),
+        ("decode-raw --presentation 0 --bits 20", 2, 0, "usage\n"),
+    ];
+    let unit = raw_unit(rt.alloc())?;
+    for (words, status, output, line) in cases {
+        let seen = run_over(rt.alloc(), words, &unit, &WHOLE)?;
+        assert_eq!(rt; seen.status, status, "of {words}");
+        assert_eq!(rt; seen.output.len(), output, "of {words}");
+        assert_eq!(rt; seen.line.as_slice(), line.as_bytes(), "of {words}");
+    }
+    let upper = run_over(
+        rt.alloc(),
+        "decode-raw --bits 16 --presentation 0",
+        &SILENT,
+        &WHOLE,
+    )?;
+    assert_eq!(rt; upper.status, 0);
+    assert_eq!(rt; upper.output.len(), 320);
     Ok(())
 }
 

@@ -2,7 +2,11 @@
 #![tactic(auto)]
 
 #[cfg(test)]
+mod cut;
+#[cfg(test)]
 mod decode_raw;
+#[cfg(test)]
+mod list;
 #[cfg(test)]
 mod memory;
 #[cfg(test)]

@@ -1,3 +1,1 @@
-pub mod DecodeLaws
 pub mod RunLaws
-pub mod OneAnswer

@@ -8,10 +8,13 @@ use Rattle.mlp_io.specs.Limit.{limit}
 use Rattle.mlp_tool.specs.declared.failure.Failure.{Failure}
 use Rattle.mlp_tool.specs.declared.failure.Failure.TheVariants.{Usage, Stopped}
 use Rattle.mlp_tool.specs.declared.words.Command.{Command}
-use Rattle.mlp_tool.specs.declared.words.Command.TheVariants.{DecodeRaw}
+use Rattle.mlp_tool.specs.declared.words.Command.TheVariants as command
 use Rattle.mlp_tool.specs.Words.{plain, presentation_in}
 use Rattle.mlp_tool.specs.Lines.{status_of, line_of}
-use Rattle.mlp_tool.specs.Decoded.{Decoded}
+use Rattle.mlp_answers.specs.Works.{Works}
+use Rattle.mlp_cut.specs.Cutting.{cutting}
+use Rattle.mlp_sessions.specs.Listing.{listing}
+use Rattle.mlp_sessions.specs.Playing.{playing}
 
 -- the end of the work on an input is one of the run
 abbrev pub end_of : Result Unit Stop → Result Unit Failure
@@ -21,8 +24,11 @@ end_of (Err stop) = Err (Stopped stop)
 -- what a command makes of an input and an output; where there is none, both are left alone
 abbrev pub Does : Option Command → Side → Side → Result Unit Failure → Type 0
 Does None input output end = (end ≡ Err Usage) × (input.behind ≡ input.before) × (output.behind ≡ output.before)
-Does (Some (DecodeRaw presentation)) input output end =
-    (stop : Result Unit Stop) × (end ≡ end_of stop) × Decoded presentation input output stop
+Does (Some (command.DecodeRaw presentation bits)) input output end =
+    (stop : Result Unit Stop) × (end ≡ end_of stop) × Works (playing presentation bits) input output stop
+Does (Some command.List) input output end = (stop : Result Unit Stop) × (end ≡ end_of stop) × Works listing input output stop
+Does (Some (command.Cut first count)) input output end =
+    (stop : Result Unit Stop) × (end ≡ end_of stop) × Works (cutting first count) input output stop
 
 -- no more bytes were taken than one past the limit
 abbrev pub TakesFew : Side → Type 0

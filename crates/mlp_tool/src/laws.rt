@@ -1,9 +1,14 @@
 //! What holds of inputs.
 ghost use Rattle.std.specs.Prelude.{ℕ, List};
-ghost use Rattle.mlp_tool.specs.Laws.{HasOneAnswer};
+ghost use Rattle.mlp_answers.specs.Answers.{HasOneAnswer};
+ghost use Rattle.mlp_cut.specs.Cutting.{cutting};
+ghost use Rattle.mlp_sessions.specs.Listing.{listing};
+ghost use Rattle.mlp_sessions.specs.Playing.{playing};
 
-/// Each input has one end and one output for each presentation: so the answer of a run comes exactly where its relation
-/// holds.
+/// Each input has one end and one output for each command, and for each presentation: so the answer of a run comes exactly
+/// where its relation holds.
 pub fn law_one_answer()
-    ensures { (k : ℕ) (all : List ℕ) → HasOneAnswer k all }
+    ensures decode_raw { (k bits : ℕ) (all : List ℕ) → HasOneAnswer (playing k bits) all }
+    ensures list { (all : List ℕ) → HasOneAnswer listing all }
+    ensures cut { (f c : ℕ) (all : List ℕ) → HasOneAnswer (cutting f c) all }
 {}

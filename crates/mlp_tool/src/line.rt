@@ -5,30 +5,12 @@ ghost use Rattle.mlp_tool.specs.Lines.{refusal_status, stop_status, status_of, w
 
 use crate::failure::Failure;
 use arrayvec::ArrayVec;
-use itoa::Buffer;
+use mlp_sessions::{put_number, put_text};
 use mlp_stream::{Refusal, Stop};
 use mlp_syntax::{Fault, Field, PcmFault, ProfileFault, WaveField};
 
 /// Room for a line.
 pub type Line = ArrayVec<u8, 128>;
-
-/// Puts bytes behind a line.
-fn push(line: &mut Line, bytes: &[u8])
-    requires { length line.old.items + length bytes.now ≤ 128 }
-    ensures { line.new.items ≡ line.old.items ++ bytes.now }
-{
-    let _ = line.try_extend_from_slice(bytes);
-}
-
-/// Puts a number behind a line.
-fn push_number(line: &mut Line, number: u64)
-    requires { length line.old.items + 20 ≤ 128 }
-    ensures text { line.new.items ≡ line.old.items ++ decimal number }
-    ensures short { length line.new.items ≤ length line.old.items + 20 }
-{
-    let mut buffer = Buffer::new();
-    push(line, buffer.format(number).as_bytes());
-}
 
 fn name(field: Field) -> &'static [u8]
     ensures text { result.now ≡ name_of field }
@@ -68,15 +50,15 @@ fn push_fault(line: &mut Line, fault: &Fault)
     requires { line.old.items ≡ [] }
     ensures { line.new.items ≡ fault_line fault.now }
 {
-    push(line, b"bad stream: unit ");
-    push_number(line, fault.unit);
-    push(line, b", substream ");
-    push_number(line, u64::from(fault.substream));
-    push(line, b", ");
-    push(line, name(fault.field));
-    push(line, b", bit ");
-    push_number(line, u64::from(fault.bit));
-    push(line, b"\n");
+    put_text(line, b"bad stream: unit ");
+    put_number(line, fault.unit);
+    put_text(line, b", substream ");
+    put_number(line, u64::from(fault.substream));
+    put_text(line, b", ");
+    put_text(line, name(fault.field));
+    put_text(line, b", bit ");
+    put_number(line, u64::from(fault.bit));
+    put_text(line, b"\n");
 }
 
 fn push_pcm_name(line: &mut Line, fault: &PcmFault)
@@ -86,17 +68,17 @@ fn push_pcm_name(line: &mut Line, fault: &PcmFault)
 {
     match fault {
         PcmFault::WaveHeader(field) => {
-            push(line, b"WaveHeader ");
-            push(line, wave_name(*field));
+            put_text(line, b"WaveHeader ");
+            put_text(line, wave_name(*field));
         }
-        PcmFault::Profile(fault) => push(line, profile_name(*fault)),
-        PcmFault::Empty => push(line, b"Empty"),
+        PcmFault::Profile(fault) => put_text(line, profile_name(*fault)),
+        PcmFault::Empty => put_text(line, b"Empty"),
         PcmFault::PadBits { frame } => {
-            push(line, b"PadBits ");
-            push_number(line, *frame);
+            put_text(line, b"PadBits ");
+            put_number(line, *frame);
         }
-        PcmFault::PartialFrame => push(line, b"PartialFrame"),
-        PcmFault::PartialUnit => push(line, b"PartialUnit"),
+        PcmFault::PartialFrame => put_text(line, b"PartialFrame"),
+        PcmFault::PartialUnit => put_text(line, b"PartialUnit"),
     }
 }
 
@@ -104,31 +86,31 @@ fn push_pcm(line: &mut Line, fault: &PcmFault)
     requires { line.old.items ≡ [] }
     ensures { line.new.items ≡ codes "pcm refused: " ++ pcm_name fault.now ++ codes "\n" }
 {
-    push(line, b"pcm refused: ");
+    put_text(line, b"pcm refused: ");
     push_pcm_name(line, fault);
-    push(line, b"\n");
+    put_text(line, b"\n");
 }
 
 fn push_missing(line: &mut Line, wanted: u8, have: u8)
     requires { line.old.items ≡ [] }
     ensures { line.new.items ≡ missing_line wanted have }
 {
-    push(line, b"no presentation: ");
-    push_number(line, u64::from(wanted));
-    push(line, b" of ");
-    push_number(line, u64::from(have));
-    push(line, b"\n");
+    put_text(line, b"no presentation: ");
+    put_number(line, u64::from(wanted));
+    put_text(line, b" of ");
+    put_number(line, u64::from(have));
+    put_text(line, b"\n");
 }
 
 fn push_no_room(line: &mut Line, unit: u64, bytes: u32)
     requires { line.old.items ≡ [] }
     ensures { line.new.items ≡ no_room_line unit bytes }
 {
-    push(line, b"no schedule: unit ");
-    push_number(line, unit);
-    push(line, b", ");
-    push_number(line, u64::from(bytes));
-    push(line, b" bytes\n");
+    put_text(line, b"no schedule: unit ");
+    put_number(line, unit);
+    put_text(line, b", ");
+    put_number(line, u64::from(bytes));
+    put_text(line, b" bytes\n");
 }
 
 /// Puts a number between two texts.
@@ -138,9 +120,9 @@ fn push_between(line: &mut Line, before: &[u8], number: u64, behind: &[u8])
     requires second { length behind.now ≤ 40 }
     ensures { line.new.items ≡ before.now ++ decimal number ++ behind.now }
 {
-    push(line, before);
-    push_number(line, number);
-    push(line, behind);
+    put_text(line, before);
+    put_number(line, number);
+    put_text(line, behind);
 }
 
 fn push_refusal(line: &mut Line, presentation: u8, refusal: &Refusal)
@@ -202,9 +184,9 @@ fn push_stop(line: &mut Line, presentation: u8, stop: &Stop)
 {
     match stop {
         Stop::Refused(refusal) => push_refusal(line, presentation, refusal),
-        Stop::ReadFault => push(line, b"read fault\n"),
-        Stop::WriteFault => push(line, b"write fault\n"),
-        Stop::TooLong => push(line, b"too long\n"),
+        Stop::ReadFault => put_text(line, b"read fault\n"),
+        Stop::WriteFault => put_text(line, b"write fault\n"),
+        Stop::TooLong => put_text(line, b"too long\n"),
     }
 }
 
@@ -215,8 +197,8 @@ pub fn line_of(presentation: u8, end: &Result<(), Failure>) -> Line
     let mut line = Line::new();
     match end {
         Ok(()) => {}
-        Err(Failure::Usage) => push(&mut line, b"usage\n"),
-        Err(Failure::OutOfMemory) => push(&mut line, b"out of memory\n"),
+        Err(Failure::Usage) => put_text(&mut line, b"usage\n"),
+        Err(Failure::OutOfMemory) => put_text(&mut line, b"out of memory\n"),
         Err(Failure::Stopped(stop)) => push_stop(&mut line, presentation, stop),
     }
     line

@@ -1,32 +1,73 @@
 //! The top call.
-ghost use Rattle.std.specs.Prelude.{◌≡◌, ◌==◌, ◌≤◌, map, string_bytes};
+ghost use Rattle.std.specs.Prelude.{◌≡◌, ◌==◌, ◌≤◌, ◌⊎◌, map, string_bytes};
 ghost use Rattle.mlp_io.specs.Causes.{IsCause};
 ghost use Rattle.mlp_stream.specs.Sides.{side};
 ghost use Rattle.mlp_stream.specs.Pumped.{is_read_fault, is_write_fault};
-ghost use Rattle.mlp_tool.specs.Decoded.{Decoded};
-ghost use Rattle.mlp_tool.specs.Words.{presentation_in};
+ghost use Rattle.mlp_answers.specs.Works.{Works};
+ghost use Rattle.mlp_cut.specs.Cutting.{cutting};
+ghost use Rattle.mlp_sessions.specs.Listing.{listing};
+ghost use Rattle.mlp_sessions.specs.Playing.{playing};
+ghost use Rattle.mlp_tool.specs.Words.{presentation_in, IsKnown};
 ghost use Rattle.mlp_tool.specs.Lines.{status_of};
 ghost use Rattle.mlp_tool.specs.Run.{Does, TakesFew, Told, Ran};
 
-use crate::decode::Decode;
 use crate::failure::Failure;
 use crate::line::{line_of, status_of};
 use crate::words::{Command, plain};
+use mlp_cut::Cutter;
 use mlp_io::{Sink, Source, put_all};
+use mlp_sessions::{Decode, List};
 use mlp_stream::{Stop, pump};
 use std::alloc::Global;
 
-/// Decodes a presentation from 0 to 2.
-fn decode<S: Source, K: Sink>(presentation: u8, input: &mut S, output: &mut K) -> Result<(), Stop>
-    requires { presentation ≤ 2 }
-    ensures decoded { let read = side S.left input.old input.new in
+/// Decodes a presentation from 0 to 2 into samples of 16 or 24 bits.
+fn decode<S: Source, K: Sink>(
+    presentation: u8,
+    bits: u8,
+    input: &mut S,
+    output: &mut K,
+) -> Result<(), Stop>
+    requires exists { presentation ≤ 2 }
+    requires bits { (bits ≡ 16) ⊎ (bits ≡ 24) }
+    ensures works { let read = side S.left input.old input.new in
         let written = side K.written output.old output.new in
-        Decoded presentation read written result }
+        Works (playing presentation bits) read written result }
     ensures few { TakesFew (side S.left input.old input.new) }
     ensures read { IsCause (is_read_fault result) (S.faults input.old) (S.faults input.new) }
     ensures write { IsCause (is_write_fault result) (K.faults output.old) (K.faults output.new) }
 {
-    let mut session = Decode::open(presentation);
+    let mut session = Decode::open(presentation, bits);
+    pump(&mut session, 0, input, output)
+}
+
+/// Lists the access units.
+fn list<S: Source, K: Sink>(input: &mut S, output: &mut K) -> Result<(), Stop>
+    ensures works { let read = side S.left input.old input.new in
+        let written = side K.written output.old output.new in
+        Works listing read written result }
+    ensures few { TakesFew (side S.left input.old input.new) }
+    ensures read { IsCause (is_read_fault result) (S.faults input.old) (S.faults input.new) }
+    ensures write { IsCause (is_write_fault result) (K.faults output.old) (K.faults output.new) }
+{
+    let mut session = List::open();
+    pump(&mut session, 0, input, output)
+}
+
+/// Cuts the stream: `count` access units from the one of number `first` on.
+fn cut<S: Source, K: Sink>(
+    first: u64,
+    count: u64,
+    input: &mut S,
+    output: &mut K,
+) -> Result<(), Stop>
+    ensures works { let read = side S.left input.old input.new in
+        let written = side K.written output.old output.new in
+        Works (cutting first count) read written result }
+    ensures few { TakesFew (side S.left input.old input.new) }
+    ensures read { IsCause (is_read_fault result) (S.faults input.old) (S.faults input.new) }
+    ensures write { IsCause (is_write_fault result) (K.faults output.old) (K.faults output.new) }
+{
+    let mut session = Cutter::open(first, count);
     pump(&mut session, 0, input, output)
 }
 
@@ -36,7 +77,7 @@ fn work<S: Source, K: Sink>(
     input: &mut S,
     output: &mut K,
 ) -> Result<(), Failure>
-    requires { presentation_in command.now ≤ 2 }
+    requires { IsKnown command.now }
     ensures does { let read = side S.left input.old input.new in
         let written = side K.written output.old output.new in
         Does command.now read written result }
@@ -46,7 +87,17 @@ fn work<S: Source, K: Sink>(
 {
     match command {
         None => Err(Failure::Usage),
-        Some(Command::DecodeRaw { presentation }) => match decode(*presentation, input, output) {
+        Some(Command::DecodeRaw { presentation, bits }) => {
+            match decode(*presentation, *bits, input, output) {
+                Ok(()) => Ok(()),
+                Err(stop) => Err(Failure::Stopped(stop)),
+            }
+        }
+        Some(Command::List) => match list(input, output) {
+            Ok(()) => Ok(()),
+            Err(stop) => Err(Failure::Stopped(stop)),
+        },
+        Some(Command::Cut { first, count }) => match cut(*first, *count, input, output) {
             Ok(()) => Ok(()),
             Err(stop) => Err(Failure::Stopped(stop)),
         },
@@ -65,8 +116,8 @@ fn presentation_in(command: &Option<Command>) -> u8
     ensures { result ≡ presentation_in command.now }
 {
     match command {
-        None => 0,
-        Some(Command::DecodeRaw { presentation }) => *presentation,
+        None | Some(Command::List) | Some(Command::Cut { .. }) => 0,
+        Some(Command::DecodeRaw { presentation, .. }) => *presentation,
     }
 }
 

@@ -1,5 +1,15 @@
-use Rattle.mlp_tool.proofs.OneAnswer.{has_one}
+use Rattle.mlp_answers.proofs.SomeAnswer.{has_one_answer}
+use Rattle.mlp_cut.specs.Cutting.{cutting}
+use Rattle.mlp_cut.proofs.CutterLaws.{cutting_is}
+use Rattle.mlp_sessions.proofs.ListFollows.{list_has_one}
+use Rattle.mlp_sessions.proofs.PlayFollows.{decode_has_one}
 use Rattle.mlp_tool.proofs.laws.law_one_answer.Goals as goal
 
-pub returns : goal.returns
-returns c = has_one
+pub returns-clause-decode_raw : goal.returns-clause-decode_raw
+returns-clause-decode_raw c = decode_has_one
+
+pub returns-clause-list : goal.returns-clause-list
+returns-clause-list c = list_has_one
+
+pub returns-clause-cut : goal.returns-clause-cut
+returns-clause-cut c = λ f n all. has_one_answer (cutting f n) (cutting_is f n) all

@@ -4,7 +4,7 @@ use Rattle.mlp_tool.proofs.line.push_pcm_name.Goals as goal
 
 pub returns-in-WaveHeader-clause-text : goal.returns-in-WaveHeader-clause-text
 returns-in-WaveHeader-clause-text c =
-    rw (c.push-in-WaveHeader.ensures, c.push.ensures, c.wave_name.ensures.text, c.in-WaveHeader.is) (append_assoc c.args.line.now.items (codes "WaveHeader ") (wave_name c.in-WaveHeader.field))
+    rw (c.put_text-in-WaveHeader.ensures, c.put_text.ensures, c.wave_name.ensures.text, c.in-WaveHeader.is) (append_assoc c.args.line.now.items (codes "WaveHeader ") (wave_name c.in-WaveHeader.field))
 
 pub returns-in-PartialFrame-clause-text : goal.returns-in-PartialFrame-clause-text
-returns-in-PartialFrame-clause-text c = rw c.in-PartialFrame.is c.push-in-PartialFrame.ensures
+returns-in-PartialFrame-clause-text c = rw c.in-PartialFrame.is c.put_text-in-PartialFrame.ensures
