@@ -1,0 +1,4 @@
+//! What decoding a stream writes.
+#![tactic(auto)]
+
+pub mod laws;
