@@ -13,20 +13,16 @@ use Rattle.mlp_params.specs.RestartHeader.{restart}
 use Rattle.mlp_params.specs.Parameters.{params}
 use Rattle.mlp_params.specs.InForce.{restarted_channel, in_force}
 use Rattle.mlp_params.specs.States.{IsState}
-use Rattle.mlp_params.proofs.LawfulStates.{restart_is_state}
 use Rattle.mlp_params.proofs.LawfulSteps.{applied_is}
 use Rattle.mlp_substream.specs.declared.known.Place.{Place}
 use Rattle.mlp_substream.specs.Blocks.{against, restarted, given, after_head, force_after, IsPlace, ForceFits}
 use Rattle.mlp_substream.specs.Playable.{HeadFits, ArePlayable}
+use Rattle.mlp_substream.proofs.BlockCounts.{restarted_lawful}
 use Rattle.mlp_channels.specs.Channels.{codes_channel}
 use Rattle.mlp_channels.specs.Given.{GivesChannels}
 use Rattle.mlp_channels.proofs.GivenRanges.{gives_channel}
 
-restarted_lawful : (place : Place) → IsPlace place → (force : Option State) (o : Option Restart) → ForceFits place force → IfSome o (λ r. Allowed (restart place.format) r) → ForceFits place (restarted place force o)
-restarted_lawful place ok force None lawful a = lawful
-restarted_lawful place ok force (Some r) lawful a = record { lawful = restart_is_state place.format place.unit_frames r a ok.least ok.most; format_is = refl; frames_are = refl }
-
--- .. behind the parameters that the block gives, if there are some
+-- behind the parameters that the block gives, if there are some
 given_lawful : (place : Place) (force : Option State) (o : Option Params) → ForceFits place force → IfSome o (λ p. Allowed (against force params) p) → ForceFits place (option_map (given o) force)
 unfolding against never
 given_lawful place None o lawful a = tt

@@ -14,7 +14,8 @@ use Rattle.mlp_stream.specs.declared.stop.Stop.{Stop}
 use Rattle.mlp_unit.specs.Outline.{outline, Outline}
 use Rattle.mlp_walk.specs.Next.{TakesBytes}
 use Rattle.mlp_answers.specs.Answers.{Answer, Answers, finished, unfinished, refuses, refusing, HasTaken}
-use Rattle.mlp_outline.proofs.Outlines.{outline_is, outline_bytes}
+use Rattle.mlp_unit.proofs.OutlineLaws.{outline_is}
+use Rattle.mlp_outline.proofs.Outlines.{outline_bytes}
 use Rattle.mlp_cut.specs.Cut.{cut, lacks_sync}
 use Rattle.mlp_cut.specs.Cutting.{OuterUnit, cut_end, cutting}
 use Rattle.mlp_cut.specs.Laws.{IsCut}

@@ -23,7 +23,8 @@ use Rattle.mlp_answers.specs.Works.{Works}
 use Rattle.mlp_answers.specs.Follows.{IsLast, Follows, IsGiven, ReadsOn}
 use Rattle.mlp_answers.proofs.ReadingLaws.{read_follows}
 use Rattle.mlp_answers.proofs.RunLaws.{works}
-use Rattle.mlp_outline.proofs.Outlines.{outline_is, outline_bytes}
+use Rattle.mlp_unit.proofs.OutlineLaws.{outline_is}
+use Rattle.mlp_outline.proofs.Outlines.{outline_bytes}
 use Rattle.mlp_cut.specs.Cutting.{OuterUnit, cut_end, cutting}
 use Rattle.mlp_cut.specs.Cutter.{Held, opened, after_unit, with_after, reader, no_unit, cut_step, cut_last}
 use Rattle.mlp_cut.specs.SessionLaws.{outline_open}

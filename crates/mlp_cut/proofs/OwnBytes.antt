@@ -12,7 +12,8 @@ use Rattle.mlp_unit.specs.Outline.{outline}
 use Rattle.mlp_unit.proofs.UnitRules.{fits_text}
 use Rattle.mlp_substream.specs.Checks.{bytes_of}
 use Rattle.mlp_substream.proofs.CheckLaws.{AreBytes, bytes_of-bits}
-use Rattle.mlp_outline.proofs.Outlines.{outline_is, outline_bytes}
+use Rattle.mlp_unit.proofs.OutlineLaws.{outline_is}
+use Rattle.mlp_outline.proofs.Outlines.{outline_bytes}
 use Rattle.mlp_cut.specs.Cut.{unit_bytes}
 
 front_small : (bytes : List ℕ) (n : ℕ) → AreBytes bytes → AreBytes (take n bytes)

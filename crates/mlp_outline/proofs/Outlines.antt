@@ -6,15 +6,14 @@ use Rattle.mlp_syntax.specs.declared.major.FormatInfo.TheVariants as format
 use Rattle.mlp_syntax.specs.declared.major.MajorSync.{MajorSync}
 use Rattle.mlp_syntax.specs.declared.unit.Outer.{Outer}
 use Rattle.mlp_layout.specs.Contents.{nothing}
-use Rattle.mlp_layout.specs.Streams.{IsFormat, outer_fault}
-use Rattle.mlp_layout.proofs.ContentLaws.{nothing_is}
+use Rattle.mlp_layout.specs.Streams.{outer_fault}
 use Rattle.mlp_major.specs.MajorSync.{most_substreams}
 use Rattle.mlp_unit.specs.AccessUnit.{AccessUnit, major_size, substreams_of}
 use Rattle.mlp_unit.specs.Directory.{directory_size}
 use Rattle.mlp_unit.specs.Outline.{outline}
 use Rattle.mlp_unit.specs.Shape.{unit_read, unit_with}
 use Rattle.mlp_unit.specs.Written.{FirstUsable}
-use Rattle.mlp_unit.proofs.UnitLaws.{access_unit_is, access_unit_size}
+use Rattle.mlp_unit.proofs.UnitLaws.{access_unit_size}
 use Rattle.mlp_walk.specs.declared.refusal.Refusal.TheVariants as refused
 use Rattle.mlp_walk.specs.Next.{fault_of, asked, next_of, TakesBytes}
 use Rattle.mlp_outline.specs.Outlining.{Next, outlined_of}
@@ -44,13 +43,6 @@ outline_taken number first next size o e =
     next_taken outline None number first next u (8 * size) tt e (record { told = λ k h. absurd (none_asked number k h) }) refl ∙ ap (sized u) same
 
 -- ---- the format
-
-pub outline_is : IsFormat outline
-outline_is = record {
-  outer_is = access_unit_is;
-  contents_are = λ first u. nothing_is;
-  takes_bits = λ first u fits. omega (arith, access_unit_size first u fits);
-}
 
 pub outline_bytes : TakesBytes outline
 outline_bytes = record {

@@ -52,7 +52,7 @@ pub no_rows : (format : Kind) (r : Restart) → Allowed (rows format r) (record 
 unfolding rows part ruled number_of times made
 no_rows format r = record { fits = (omega arith, (refl, refl)); meets = ((tt, rw (le-leb 0 (matrix_limit format) (omega arith)) refl), (tt, tt)) }
 
-absent_allowed : (n : ℕ) → Allowed (filter n false) absent
+pub absent_allowed : (n : ℕ) → Allowed (filter n false) absent
 unfolding filter part ruled number_of chosen made
 absent_allowed n = record { fits = (omega arith, refl); meets = ((tt, rw (le-leb 0 n (omega arith)) refl), tt) }
 

@@ -310,11 +310,3 @@ zeros_length f a = pick (order_of f == 0) refl
         let some : order_of f ≢ 0 = λ z. let s : true ≡ false = sym (eq-eqb (order_of f) 0 z) ∙ e in cc in
         let sizes : 25 + order_of f * f.coeff_bits ≡ (17 + order_of f * f.coeff_bits) + 8 = omega arith in
         zeroed_length some ∙ sizes ∙ sym (ap (λ (b : Bool). (if b then 4 else 17 + order_of f * f.coeff_bits) + (if b then 0 else 8)) e)
-
--- no filter can be written
-made_absent : (n : ℕ) → Allowed (made (absent {n = n})) absent
-unfolding made
-made_absent n = record { fits = refl; meets = tt }
-
-pub absent_allowed : (n : ℕ) → Allowed (filter n false) absent
-absent_allowed n = whole n false absent (omega arith) (holds_none (nat_le 0 n) 0 (le-leb 0 n (omega arith))) (first_back (made absent) (behind_order n false 0) absent (0 == 0) refl (made_absent n))

@@ -15,7 +15,8 @@ use Rattle.mlp_levinson.specs.Best.{HasBits, IsComputed}
 use Rattle.mlp_levinson.proofs.Bests.{best}
 use Rattle.mlp_search.specs.Candidates.{filter_with, alone, table, in_force, pair_of}
 use Rattle.mlp_search.specs.Given.{IsPair}
-use Rattle.mlp_search.proofs.FilterLaws.{plain_allowed, absent_allowed}
+use Rattle.mlp_search.proofs.FilterLaws.{plain_allowed}
+use Rattle.mlp_params.proofs.LawfulStates.{absent_allowed}
 
 -- ---- the table
 

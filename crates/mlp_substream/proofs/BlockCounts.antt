@@ -29,7 +29,7 @@ use Rattle.mlp_substream.proofs.WritingEnds.{has_tail, meets_tail, tail_blocks}
 
 -- ---- what is in force stays lawful
 
-restarted_lawful : (place : Place) → IsPlace place → (force : Option State) (o : Option Restart) → ForceFits place force → IfSome o (λ r. Allowed (restart place.format) r) → ForceFits place (restarted place force o)
+pub restarted_lawful : (place : Place) → IsPlace place → (force : Option State) (o : Option Restart) → ForceFits place force → IfSome o (λ r. Allowed (restart place.format) r) → ForceFits place (restarted place force o)
 restarted_lawful place ok force None lawful a = lawful
 restarted_lawful place ok force (Some r) lawful a = record { lawful = restart_is_state place.format place.unit_frames r a ok.least ok.most; format_is = refl; frames_are = refl }
 

@@ -1,10 +1,9 @@
 -- The numbers and names of the rules.
 use Rattle.std.specs.Prelude.{ℕ, List, codes}
 use Rattle.mlp_syntax.specs.declared.fault.Field.{Field}
-use Rattle.mlp_syntax.specs.declared.fault.Field.TheVariants.{NotBuilt, AfterEnd, UnitHeader, UnitLength, FirstSync, SyncKind, MajorCrc, Signature, Rate, Quant, GroupRate, Substreams, SyncChanged, DirectoryShort, ExtraWord, UnitParity, RestartFlag, DirectoryEnd, SegmentShort, SegmentParity, SegmentCheck, RestartMissing, RestartPlace, RestartWord, RestartKind, ChannelRange, MatrixChannel, DataCheck, ChannelAssign, RestartCheck, ChannelsChanged, Uncovered, LosslessCheck, BlockSize, MatrixCount, MatrixDest, MatrixFrac, NoiseShift, OutputShift, FilterOrder, CoeffBits, FirState, FilterSum, FilterPrecision, HuffLsbs, StepTooLarge, BlockOverrun, Code, SegmentEnd, Terminator, TerminatorMixed, FrameCount}
+use Rattle.mlp_syntax.specs.declared.fault.Field.TheVariants.{AfterEnd, UnitHeader, UnitLength, FirstSync, SyncKind, MajorCrc, Signature, Rate, Quant, GroupRate, Substreams, SyncChanged, DirectoryShort, ExtraWord, UnitParity, RestartFlag, DirectoryEnd, SegmentShort, SegmentParity, SegmentCheck, RestartMissing, RestartPlace, RestartWord, RestartKind, ChannelRange, MatrixChannel, DataCheck, ChannelAssign, RestartCheck, ChannelsChanged, Uncovered, LosslessCheck, BlockSize, MatrixCount, MatrixDest, MatrixFrac, NoiseShift, OutputShift, FilterOrder, CoeffBits, FirState, FilterSum, FilterPrecision, HuffLsbs, StepTooLarge, BlockOverrun, Code, SegmentEnd, Terminator, TerminatorMixed, FrameCount}
 
 abbrev pub number_of : Field → ℕ
-number_of NotBuilt = 0
 number_of AfterEnd = 52
 number_of UnitHeader = 1
 number_of UnitLength = 2
@@ -58,7 +57,6 @@ number_of TerminatorMixed = 51
 number_of FrameCount = 48
 
 abbrev pub name_of : Field → List ℕ
-name_of NotBuilt = codes "NotBuilt"
 name_of AfterEnd = codes "AfterEnd"
 name_of UnitHeader = codes "UnitHeader"
 name_of UnitLength = codes "UnitLength"

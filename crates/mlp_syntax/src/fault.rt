@@ -3,8 +3,6 @@
 /// The rule that fails first. The numbers and names are this project's own, and the program prints the names.
 #[derive(Clone, Copy, Debug, PartialEq, Eq)]
 pub enum Field {
-    /// The access unit is of a form that this build doesn't read yet. It is no rule of the format.
-    NotBuilt,
     /// No access unit follows one whose segment has a terminator, in a substream that is read.
     AfterEnd,
     /// The four bytes of an access unit's head are there.
@@ -113,12 +111,11 @@ impl Field {
     ghost use Rattle.std.specs.Prelude.{◌≡◌};
     ghost use Rattle.mlp_syntax.specs.Field.{number_of, name_of};
 
-    /// The number of the rule, from 1 to 52; there is no rule 6. `NotBuilt` has 0.
+    /// The number of the rule, from 1 to 52; there is no rule 6.
     pub fn number(self) -> u8
         ensures { result ≡ number_of self }
     {
         match self {
-            Field::NotBuilt => 0,
             Field::AfterEnd => 52,
             Field::UnitHeader => 1,
             Field::UnitLength => 2,
@@ -178,7 +175,6 @@ impl Field {
         ensures { result.now ≡ name_of self }
     {
         match self {
-            Field::NotBuilt => "NotBuilt",
             Field::AfterEnd => "AfterEnd",
             Field::UnitHeader => "UnitHeader",
             Field::UnitLength => "UnitLength",

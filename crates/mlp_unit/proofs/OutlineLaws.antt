@@ -7,7 +7,7 @@ use Rattle.mlp_layout.proofs.StreamLaws.{has_one_end}
 use Rattle.mlp_unit.specs.Outline.{outline, HasOneOutline}
 use Rattle.mlp_unit.proofs.UnitLaws.{access_unit_is, access_unit_size}
 
-outline_is : IsFormat outline
+pub outline_is : IsFormat outline
 outline_is = record {
   outer_is = access_unit_is;
   contents_are = λ first u. nothing_is;
