@@ -2,6 +2,8 @@
 //! The theorems are lemmas of `proofs/`, since they are over any format, command and session.
 #![tactic(auto)]
 
+mod failure;
 mod refusal;
 
+pub use failure::Failure;
 pub use refusal::refusal_of;

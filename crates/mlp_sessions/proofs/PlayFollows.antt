@@ -26,10 +26,10 @@ use Rattle.mlp_answers.proofs.RunLaws.{works}
 use Rattle.mlp_answers.proofs.SomeAnswer.{has_one_answer}
 use Rattle.mlp_outline.proofs.NextParts.{next_broken}
 use Rattle.mlp_contents.specs.Units.{Left, Unit_of, start, whole, after, frames_out}
-use Rattle.mlp_contents.proofs.FormatLaws.{whole_is}
+use Rattle.mlp_contents.proofs.FormatLaws.{whole_is, whole_bytes}
 use Rattle.mlp_present.specs.Decoding.{is_open_behind, last_of, no_unit}
 use Rattle.mlp_sessions.specs.Playing.{unit_played, frames_given, playing, Player, player, after_played, with_session, decode_reader, decode_step, on_end, decode_last, Played}
-use Rattle.mlp_sessions.specs.PlayLaws.{whole_bytes, whole_open}
+use Rattle.mlp_sessions.specs.PlayLaws.{whole_open}
 use Rattle.mlp_sessions.proofs.NoUnit.{none_read}
 
 pub playing_is : (k bits : ℕ) → IsWorking (playing k bits)

@@ -1,23 +1,17 @@
 -- The session of `decode-raw` is one: what a trait asks of it, with its proof.
 use Rattle.std.proofs.Common.{◌≡◌, ℕ, ◌+◌, List, length, Result, Ok, Err, Some, sym, ap, arith}
-use Rattle.mlp_unit.specs.AccessUnit.{major_size}
-use Rattle.mlp_unit.specs.Directory.{directory_size}
-use Rattle.mlp_walk.specs.Next.{TakesBytes}
+use Rattle.mlp_syntax.specs.declared.segment.Segment.{Segment}
+use Rattle.mlp_unit.specs.AccessUnit.{AccessUnit}
 use Rattle.mlp_stream.specs.declared.refusal.Refusal.{Refusal}
 use Rattle.mlp_stream.specs.Moves.{IsSession}
 use Rattle.mlp_answers.specs.Working.{IsOpenTest}
-use Rattle.mlp_answers.specs.Reading.{IsReader, read_step}
+use Rattle.mlp_answers.specs.Reading.{IsReader, Reader, read_step}
 use Rattle.mlp_answers.proofs.ReadingLaws.{read_lawful}
-use Rattle.mlp_contents.specs.Units.{whole}
-use Rattle.mlp_contents.proofs.FormatLaws.{whole_is, outer_size}
+use Rattle.mlp_contents.specs.Units.{Left, whole}
+use Rattle.mlp_contents.proofs.FormatLaws.{whole_is, whole_bytes}
 use Rattle.mlp_present.specs.Decoding.{is_open_behind}
 use Rattle.mlp_present.proofs.WaitLaws.{waits_bits, waits_empty, waits_enough, waits_none, waits_stays, waits_settled}
 use Rattle.mlp_sessions.specs.Playing.{Player, after_played, with_session, unit_played, decode_reader, decode_count, decode_step}
-
-pub whole_bytes : (k : ℕ) → TakesBytes (whole k)
-whole_bytes k = record {
-  whole = λ left o fits. (4 + major_size o.major + directory_size o.entries + length o.body, omega (arith, outer_size k left o fits));
-}
 
 -- whether the next unit is open
 pub whole_open : (k : ℕ) → IsOpenTest (whole k) is_open_behind
@@ -29,6 +23,10 @@ whole_open k = record {
   stays = waits_stays;
   settled = waits_settled k;
 }
+
+-- a session that reads whole units and counts them is one
+pub whole_lawful : {S : Type 0} (k : ℕ) (reader : Reader S Left AccessUnit (List Segment)) → IsReader (whole k) (Some k) is_open_behind reader → IsSession (read_step (whole k) (Some k) is_open_behind reader) reader.count
+whole_lawful k reader counts = read_lawful (whole k) (Some k) is_open_behind reader (whole_is k) (whole_bytes k) (whole_open k) counts
 
 -- each unit is counted
 units_in : Result (List ℕ × Player) Refusal → ℕ
@@ -44,7 +42,7 @@ decode_counts : (k : ℕ) → IsReader (whole k) (Some k) is_open_behind decode_
 decode_counts k = record { counts = λ s t u out e. given_units (after_played s u.unit) t (unit_played s.held.k s.bits s.frames s.held.left u.unit) out e }
 
 lawful_at : (k : ℕ) → IsSession (read_step (whole k) (Some k) is_open_behind decode_reader) decode_count
-lawful_at k = read_lawful (whole k) (Some k) is_open_behind decode_reader (whole_is k) (whole_bytes k) (whole_open k) (decode_counts k)
+lawful_at k = whole_lawful k decode_reader (decode_counts k)
 
 pub decode_lawful : IsSession decode_step decode_count
 decode_lawful = record {

@@ -13,8 +13,8 @@ use Rattle.mlp_stream.specs.declared.refusal.Refusal.TheVariants as refused
 use Rattle.mlp_stream.specs.declared.refusal.Refusal.TheVariants.{Pcm, NoRoom, NoPresentation, LowBits, NoRestart, NotThere}
 use Rattle.mlp_stream.specs.declared.stop.Stop.{Stop}
 use Rattle.mlp_stream.specs.declared.stop.Stop.TheVariants.{Refused, ReadFault, WriteFault, TooLong}
-use Rattle.mlp_tool.specs.declared.failure.Failure.{Failure}
-use Rattle.mlp_tool.specs.declared.failure.Failure.TheVariants.{Usage, OutOfMemory, Stopped}
+use Rattle.mlp_answers.specs.declared.failure.Failure.{Failure}
+use Rattle.mlp_answers.specs.declared.failure.Failure.TheVariants.{Usage, OutOfMemory, Stopped}
 
 abbrev pub refusal_status : Refusal → ℕ
 refusal_status (refused.Fault fault) = 1

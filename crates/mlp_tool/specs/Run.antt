@@ -5,8 +5,8 @@ use Rattle.mlp_io.specs.Causes.{Rose}
 use Rattle.mlp_stream.specs.declared.stop.Stop.{Stop}
 use Rattle.mlp_stream.specs.Sides.{Side}
 use Rattle.mlp_io.specs.Limit.{limit}
-use Rattle.mlp_tool.specs.declared.failure.Failure.{Failure}
-use Rattle.mlp_tool.specs.declared.failure.Failure.TheVariants.{Usage, Stopped}
+use Rattle.mlp_answers.specs.declared.failure.Failure.{Failure}
+use Rattle.mlp_answers.specs.declared.failure.Failure.TheVariants.{Usage, Stopped}
 use Rattle.mlp_tool.specs.declared.words.Command.{Command}
 use Rattle.mlp_tool.specs.declared.words.Command.TheVariants as command
 use Rattle.mlp_tool.specs.Words.{plain, presentation_in}

@@ -1,14 +1,12 @@
 //! The program: its words, its commands and what it tells.
 #![tactic(auto)]
 
-mod failure;
 pub mod laws;
 mod line;
 mod numbers;
 mod top;
 mod words;
 
-pub use failure::Failure;
 pub use line::{Line, line_of, status_of};
 pub use top::run;
 pub use words::{Command, plain};

@@ -11,7 +11,7 @@ ghost use Rattle.mlp_tool.specs.Words.{presentation_in, IsKnown};
 ghost use Rattle.mlp_tool.specs.Lines.{status_of};
 ghost use Rattle.mlp_tool.specs.Run.{Does, TakesFew, Told, Ran};
 
-use crate::failure::Failure;
+use mlp_answers::Failure;
 use crate::line::{line_of, status_of};
 use crate::words::{Command, plain};
 use mlp_cut::Cutter;
