@@ -5,11 +5,12 @@ use Rattle.mlp_stream.specs.Moves.{IsSession}
 use Rattle.mlp_walk.specs.Next.{Taken}
 use Rattle.mlp_unit.specs.AccessUnit.{AccessUnit}
 use Rattle.mlp_unit.specs.Outline.{outline}
+use Rattle.mlp_unit.proofs.OutlineLaws.{outline_is}
 use Rattle.mlp_answers.specs.Working.{IsOpenTest}
 use Rattle.mlp_answers.specs.Reading.{IsReader}
 use Rattle.mlp_answers.proofs.ReadingLaws.{read_lawful}
 use Rattle.mlp_outline.proofs.OpenLaws.{closed_decided, open_none, open_bits, open_empty, open_enough, closed_stays}
-use Rattle.mlp_outline.proofs.Outlines.{outline_is, outline_bytes}
+use Rattle.mlp_outline.proofs.Outlines.{outline_bytes}
 use Rattle.mlp_cut.specs.Cut.{unit_bytes}
 use Rattle.mlp_cut.specs.Cutting.{is_open_outline, cut_out}
 use Rattle.mlp_cut.specs.Cutter.{Held, after_unit, with_after, reader, cut_step, cut_count}

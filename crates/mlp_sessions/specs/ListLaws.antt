@@ -1,6 +1,7 @@
 -- The session of `list` is one: what a trait asks of it, with its proof.
 use Rattle.std.proofs.Common.{ℕ, List, Result, Ok, Err, None, sym, ap}
 use Rattle.mlp_unit.specs.Outline.{outline}
+use Rattle.mlp_unit.proofs.OutlineLaws.{outline_is}
 use Rattle.mlp_stream.specs.declared.refusal.Refusal.{Refusal}
 use Rattle.mlp_stream.specs.Moves.{IsSession}
 use Rattle.mlp_answers.specs.Working.{IsOpenTest}
@@ -8,7 +9,7 @@ use Rattle.mlp_answers.specs.Reading.{IsReader}
 use Rattle.mlp_answers.proofs.ReadingLaws.{read_lawful}
 use Rattle.mlp_outline.specs.Outlining.{Outlined}
 use Rattle.mlp_outline.proofs.OpenLaws.{closed_decided, open_none, open_bits, open_empty, open_enough, closed_stays}
-use Rattle.mlp_outline.proofs.Outlines.{outline_is, outline_bytes}
+use Rattle.mlp_outline.proofs.Outlines.{outline_bytes}
 use Rattle.mlp_sessions.specs.Listing.{is_open_outline, list_reader, list_count, list_step}
 
 -- whether the next unit is open, of which the outer part alone is read
