@@ -132,7 +132,7 @@ line_past f q xs es all j k x d s h l v e a =
 abbrev pub empty : List ℤ
 empty = replicate 176 (pos 0)
 
-reverse-zeros : (n : ℕ) → reverse (replicate n (pos 0)) ≡ replicate n (pos 0)
+pub reverse-zeros : (n : ℕ) → reverse (replicate n (pos 0)) ≡ replicate n (pos 0)
 reverse-zeros zero = refl
 reverse-zeros (suc n) = reverse-append (pos 0 ∷ []) (replicate n (pos 0)) ∙ ap (λ (ys : List ℤ). ys ++ pos 0 ∷ []) (reverse-zeros n) ∙ one_more n
   where

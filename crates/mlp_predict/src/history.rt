@@ -101,6 +101,14 @@ impl<const N: usize> History<N> {
         }
     }
 
+    /// All values become zeros.
+    pub fn clear(&mut self)
+        requires { N ≤ 16 }
+        ensures { self.new ≡ replicate N (pos 0) }
+    {
+        self.replace_all(&[0; N]);
+    }
+
     /// The same history once more.
     #[inline]
     pub fn copied(&self) -> History<N>

@@ -51,8 +51,8 @@ impl<const F: usize, const I: usize> Predictor<F, I> {
         requires iir_room { I ≤ 16 }
         ensures { self.new ≡ zeros F I }
     {
-        self.outputs = History::new();
-        self.differences = History::new();
+        self.outputs.clear();
+        self.differences.clear();
     }
 
     /// The latest `F` outputs, the latest first.
