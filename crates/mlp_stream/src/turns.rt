@@ -74,10 +74,10 @@ fn take_more<S: Source, K: Sink>(
 ) -> Result<(), Stop>
     ensures filled { OnOk result (Refills window.old window.new (side S.left input.old input.new)) }
     ensures flushed { let written = side K.written output.old output.new in
-        OnOk result (Gathers written gathered.old.items [] gathered.new.items) }
+        OnOk result (Gathers written gathered.old [] gathered.new) }
     ensures err { let read = side S.left input.old input.new in
         let written = side K.written output.old output.new in
-        IfErr result (λ stop. IsInputStop window.old read written gathered.old.items stop) }
+        IfErr result (λ stop. IsInputStop window.old read written gathered.old stop) }
     ensures read { IsCause (is_read_fault result) (S.faults input.old) (S.faults input.new) }
     ensures write { IsCause (is_write_fault result) (K.faults output.old) (K.faults output.new) }
 {

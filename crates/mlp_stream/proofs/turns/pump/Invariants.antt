@@ -5,7 +5,7 @@ use Rattle.mlp_stream.proofs.turns.pump.Given as goal
 
 abbrev pub invariant-units : goal.invariant-units
 invariant-units g l = record {
-  runs : Runs g.N.Session.step g.N.Session.count l.fn.taken l.fn.session l.session (g.S.Source.left l.fn.input) (g.S.Source.left l.input) (g.K.Sink.written l.fn.output) (g.K.Sink.written l.output) l.gathered.items l.window;
+  runs : Runs g.N.Session.step g.N.Session.count l.fn.taken l.fn.session l.session (g.S.Source.left l.fn.input) (g.S.Source.left l.input) (g.K.Sink.written l.fn.output) (g.K.Sink.written l.output) l.gathered l.window;
   reads : g.S.Source.faults l.input ≡ g.S.Source.faults l.fn.input;
   writes : g.K.Sink.faults l.output ≡ g.K.Sink.faults l.fn.output;
 }
