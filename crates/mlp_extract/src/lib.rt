@@ -1,0 +1,2 @@
+//! The stream of one presentation, out of a stream that may have more.
+#![tactic(auto)]
