@@ -143,13 +143,14 @@ fn play_block(
 }
 
 /// Blocks with these heads, whose codes stand one after the other. The outputs of the channels that they code stand in
-/// the first frames, one for each code.
+/// the first frames, one for each code. `block` is of no use before and afterwards.
 fn play_blocks(
     place: &Place,
     heads: &[BlockHead],
     codes: &[FrameCode],
     state: &mut Option<State>,
     predictors: &mut [Predictor<8, 4>; 8],
+    block: &mut [i32; 160],
     frames: &mut [[i32; 10]],
 )
     requires place { IsPlace place.now }
@@ -161,7 +162,6 @@ fn play_blocks(
     ensures played { HasPlayedBlocks place.now state.old heads.now codes.now (length codes.now)
         predictors.old predictors.new frames.old frames.new }
 {
-    let mut block = [0; 160];
     let mut start = 0;
     for i in 0..heads.len() {
         let head = &heads[i];
@@ -181,12 +181,14 @@ fn play_blocks(
 }
 
 /// A segment of a unit: `state` and `predictors` are what earlier units leave of its substream, and become what it
-/// leaves. The outputs of the channels that it codes stand in the first frames, one for each code.
+/// leaves. The outputs of the channels that it codes stand in the first frames, one for each code. `block` is of no use
+/// before and afterwards.
 pub fn play(
     place: &Place,
     segment: &Segment,
     state: &mut Option<State>,
     predictors: &mut [Predictor<8, 4>; 8],
+    block: &mut [i32; 160],
     frames: &mut [[i32; 10]; 160],
 )
     requires place { IsPlace place.now }
@@ -207,6 +209,7 @@ pub fn play(
         &segment.codes,
         state,
         predictors,
+        block,
         frames,
     );
 }

@@ -20,6 +20,8 @@ pub struct Substream {
     /// What is in force behind the blocks that were played. Between calls it is the same.
     playing: Option<State>,
     predictors: [Predictor<8, 4>; 8],
+    /// Room for one channel of a block, of no use between calls.
+    block: [i32; 160],
 }
 
 impl Model for Substream {
@@ -51,6 +53,7 @@ impl Substream {
                 Predictor::<8, 4>::new(),
                 Predictor::<8, 4>::new(),
             ],
+            block: [0; 160],
         }
     }
 
@@ -103,6 +106,7 @@ impl Substream {
                     segment,
                     &mut self.playing,
                     &mut self.predictors,
+                    &mut self.block,
                     frames,
                 );
                 Ok(())
