@@ -1,0 +1,2 @@
+//! The commands that work on damaged bytes, which they copy before they write.
+#![tactic(auto)]

@@ -1,0 +1,34 @@
+-- What is told of a piece.
+use Rattle.std.specs.Prelude.{◌≡◌, ℕ, Bool, true, false, List, map, length, Option, Some, None}
+use Rattle.mlp_syntax.specs.declared.major.MajorSync.{MajorSync}
+use Rattle.mlp_major.specs.MajorSync.{rate_in_hertz}
+use Rattle.mlp_contents.specs.Units.{Unit_of}
+use Rattle.mlp_samples.specs.Samples.{samples}
+use Rattle.mlp_present.specs.Decoding.{channels_by}
+use Rattle.mlp_recover.specs.declared.span.Span.{Span}
+use Rattle.mlp_recover.specs.Interval.{left_behind, Interval}
+use Rattle.mlp_recover.specs.Recovered.{Piece, Lost, Kept, AreRecovered}
+
+-- the sampling rate in hertz
+abbrev pub rate_by : Option MajorSync → ℕ
+rate_by None = 0
+rate_by (Some m) = rate_in_hertz m
+
+-- its numbers: of a kept piece the units, the frames of the presentation, its channels and its rate
+abbrev pub span_of : ℕ → Piece → Span
+span_of k (Lost first past) = record { first = first; past = past; kept = false; units = 0; frames = 0; channels = 0; rate = 0 }
+span_of k (Kept first past us) = record {
+  first = first;
+  past = past;
+  kept = true;
+  units = length us;
+  frames = length (samples k us);
+  channels = channels_by k (left_behind k us);
+  rate = rate_by (left_behind k us).sync;
+}
+
+-- these spans are those of the pieces
+pub record AreSpans (k : ℕ) (bytes : List ℕ) (spans : List Span) : Type 0 where
+  pub pieces : List Piece
+  pub recovered : AreRecovered k bytes pieces
+  pub spans_are : spans ≡ map (span_of k) pieces
