@@ -1,0 +1,64 @@
+-- What `check` makes of a stream, for presentation k.
+use Rattle.std.specs.Prelude.{◌≡◌, ◌↔◌, ℕ, ◌*◌, IsTrue, List, [], length, map, count_by, Option, Some, None, option_map, is_some, Result, Ok}
+use Rattle.mlp_syntax.specs.declared.major.MajorSync.{MajorSync}
+use Rattle.mlp_syntax.specs.declared.segment.Segment.{Segment}
+use Rattle.mlp_major.specs.MajorSync.{rate_in_hertz}
+use Rattle.mlp_unit.specs.AccessUnit.{AccessUnit, stream_kind}
+use Rattle.mlp_layout.specs.Streams.{left_after}
+use Rattle.mlp_stream.specs.declared.refusal.Refusal.{Refusal}
+use Rattle.mlp_answers.specs.Working.{Working}
+use Rattle.mlp_contents.specs.Known.{first_restart}
+use Rattle.mlp_contents.specs.Units.{Left, Unit_of, start, whole, top_of}
+use Rattle.mlp_fifo.specs.Timed.{TimedUnit, AreTimed}
+use Rattle.mlp_present.specs.Decoding.{channels_by, is_open_behind}
+use Rattle.mlp_sessions.specs.Playing.{frames_given}
+use Rattle.mlp_check.specs.declared.report.Report.{Report}
+use Rattle.mlp_check.specs.Report.{report_text}
+
+-- ---- the timing of a stream
+
+-- the output timing of substream 0's restart header, if the unit has one
+abbrev pub output_timing : Unit_of → Option ℕ
+output_timing u = option_map (λ r. r.output_timing) (first_restart (top_of 0 u.contents).blocks.items)
+
+-- a unit has two bytes a word, extra data among them
+abbrev pub timed_unit : Unit_of → TimedUnit
+timed_unit u = record { input = u.outer.head.timing; output = output_timing u; bytes = 2 * u.outer.head.words }
+
+-- the rate of the stream by its first major sync
+abbrev pub rate_by : Option MajorSync → ℕ
+rate_by None = 0
+rate_by (Some m) = rate_in_hertz m
+
+-- the units have the timing of a stream of this kind and rate
+abbrev pub KeepTiming : Option MajorSync → List Unit_of → Type 0
+KeepTiming sync us = AreTimed (stream_kind sync) (rate_by sync) (map timed_unit us)
+
+-- ---- the command
+
+-- what units leave
+abbrev pub left_behind : ℕ → List Unit_of → Left
+left_behind k us = left_after (whole k) (start k) us
+
+-- what is said of these units
+pub record IsReport (k : ℕ) (us : List Unit_of) (r : Report) : Type 0 where
+  pub units : r.units ≡ length us
+  pub frames : r.frames ≡ frames_given k (start k) us
+  pub channels : r.channels ≡ channels_by k (left_behind k us)
+  pub rate : r.rate ≡ rate_by (left_behind k us).sync
+  pub restarts : r.restarts ≡ count_by (λ u. is_some u.outer.major) us
+  pub timed : IsTrue r.timed ↔ KeepTiming (left_behind k us).sync us
+
+abbrev pub Reports : ℕ → List Unit_of → Result (List ℕ) Refusal → Type 0
+Reports k us last = (r : Report) × IsReport k us r × (last ≡ Ok (report_text r))
+
+-- nothing comes out of a unit, and six lines at the end
+abbrev pub checking : ℕ → Working Left AccessUnit (List Segment)
+checking k = record {
+  format = whole k;
+  start = start k;
+  wanted = Some k;
+  is_open = is_open_behind;
+  out = λ us u. Ok [];
+  Ends = Reports k;
+}

@@ -1,0 +1,8 @@
+//! The command `check`: whether a stream is whole, what it holds, and whether it keeps its timing.
+#![tactic(auto)]
+
+mod check;
+mod report;
+
+pub use check::Check;
+pub use report::Report;
