@@ -1,1 +1,6 @@
 pub mod Lower
+pub mod Portions
+pub mod Moved
+pub mod Extraction
+pub mod Again
+pub mod ExLaw
