@@ -129,8 +129,8 @@ line_past f q xs es all j k x d s h l v e a =
 -- ---- a whole block
 
 -- a line before anything is put into it
-abbrev pub empty : List ℤ
-empty = replicate 176 (pos 0)
+abbrev pub empty : ℕ → List ℤ
+empty room = replicate room (pos 0)
 
 pub reverse-zeros : (n : ℕ) → reverse (replicate n (pos 0)) ≡ replicate n (pos 0)
 reverse-zeros zero = refl
@@ -141,13 +141,13 @@ reverse-zeros (suc n) = reverse-append (pos 0 ∷ []) (replicate n (pos 0)) ∙ 
     one_more (suc k) = ap (λ (ys : List ℤ). pos 0 ∷ ys) (one_more k)
 
 -- what stands before the block, the latest first: the values, and zeros behind them
-values_before : (vs line : List ℤ) → length vs ≤ 16 → line ≡ take (16 - length vs) empty ++ reverse vs ++ drop 16 empty → reverse (take 16 line) ≡ vs ++ replicate (16 - length vs) (pos 0)
-values_before vs line few e =
+values_before : (room : ℕ) (vs line : List ℤ) → 16 ≤ room → length vs ≤ 16 → line ≡ take (16 - length vs) (empty room) ++ reverse vs ++ drop 16 (empty room) → reverse (take 16 line) ≡ vs ++ replicate (16 - length vs) (pos 0)
+values_before room vs line large few e =
     let k : ℕ = 16 - length vs in
     let front : List ℤ = replicate k (pos 0) ++ reverse vs in
-    let here : line ≡ front ++ drop 16 empty = e ∙ ap (λ (ys : List ℤ). ys ++ reverse vs ++ drop 16 empty) (take-replicate k 176 (pos 0) (omega arith)) in
+    let here : line ≡ front ++ drop 16 (empty room) = e ∙ ap (λ (ys : List ℤ). ys ++ reverse vs ++ drop 16 (empty room)) (take-replicate k room (pos 0) (omega arith)) in
     let count : length front ≡ 16 = omega (arith, length-append (replicate k (pos 0)) (reverse vs), length-replicate k (pos 0), length-reverse vs) in
-    ap reverse (ap (take 16) here ∙ take_at front (drop 16 empty) 16 count)
+    ap reverse (ap (take 16) here ∙ take_at front (drop 16 (empty room)) 16 count)
     ∙ reverse-append (replicate k (pos 0)) (reverse vs)
     ∙ ap (λ (ys : List ℤ). ys ++ reverse (replicate k (pos 0))) (reverse-reverse vs)
     ∙ ap (λ (ys : List ℤ). vs ++ ys) (reverse-zeros k)
@@ -157,14 +157,14 @@ pub record BlockDone (f : Filters) (q : ℕ) (first : Past) (block out ds : List
   pub outputs : drop 16 out ≡ outputs_of f first q block
   pub past : past_in out ds ≡ with_zeros (16 - length first.outputs) (16 - length first.differences) (past_of f first (outputs_of f first q block))
 
-pub block_done : (f : Filters) (q : ℕ) (past : Past) (block xs es out ds line1 line2 : List ℤ) → length past.outputs ≤ 16 → length past.differences ≤ 16 →
-    line1 ≡ take (16 - length past.outputs) empty ++ reverse past.outputs ++ drop 16 empty →
-    line2 ≡ take (16 - length past.differences) empty ++ reverse past.differences ++ drop 16 empty →
+pub block_done : (room : ℕ) (f : Filters) (q : ℕ) (past : Past) (block xs es out ds line1 line2 : List ℤ) → 16 ≤ room → length past.outputs ≤ 16 → length past.differences ≤ 16 →
+    line1 ≡ take (16 - length past.outputs) (empty room) ++ reverse past.outputs ++ drop 16 (empty room) →
+    line2 ≡ take (16 - length past.differences) (empty room) ++ reverse past.differences ++ drop 16 (empty room) →
     length (take 16 line1) ≡ 16 → xs ≡ take 16 line1 ++ block → take 16 es ≡ take 16 line2 →
     out ≡ take 16 xs ++ outputs_of f (past_in (take 16 xs) (take 16 es)) q (drop 16 xs) →
     past_in out ds ≡ past_of f (past_in (take 16 xs) (take 16 es)) (outputs_of f (past_in (take 16 xs) (take 16 es)) q (drop 16 xs)) →
     BlockDone f q past block out ds
-block_done f q past block xs es out ds line1 line2 few few2 e1 e2 long ex ee eo ep =
+block_done room f q past block xs es out ds line1 line2 large few few2 e1 e2 long ex ee eo ep =
     let a : ℕ = 16 - length past.outputs in
     let b : ℕ = 16 - length past.differences in
     let front : take 16 xs ≡ take 16 line1 = ap (take 16) ex ∙ take_at (take 16 line1) block 16 long in
@@ -172,8 +172,8 @@ block_done f q past block xs es out ds line1 line2 few few2 e1 e2 long ex ee eo 
     let before : past_in (take 16 xs) (take 16 es) ≡ with_zeros a b past =
     ap (λ (ys : List ℤ). past_in ys (take 16 es)) front
     ∙ ap (λ (ys : List ℤ). past_in (take 16 line1) ys) ee
-    ∙ ap (λ (ys : List ℤ). record { outputs = ys; differences = reverse (take 16 line2) }) (values_before past.outputs line1 few e1)
-    ∙ ap (λ (ys : List ℤ). record { outputs = past.outputs ++ replicate a (pos 0); differences = ys }) (values_before past.differences line2 few2 e2) in
+    ∙ ap (λ (ys : List ℤ). record { outputs = ys; differences = reverse (take 16 line2) }) (values_before room past.outputs line1 large few e1)
+    ∙ ap (λ (ys : List ℤ). record { outputs = past.outputs ++ replicate a (pos 0); differences = ys }) (values_before room past.differences line2 large few2 e2) in
     let all : outputs_of f (past_in (take 16 xs) (take 16 es)) q (drop 16 xs) ≡ outputs_of f past q block =
     ap (λ (p : Past). outputs_of f p q (drop 16 xs)) before
     ∙ ap (outputs_of f (with_zeros a b past) q) behind

@@ -19,7 +19,7 @@ pub fn put_before(values: &[i32], line: &mut [i32])
 }
 
 /// The prediction of sample `i` of the block, by coefficients of which the first belongs to the oldest value.
-#[inline]
+#[inline(always)]
 fn predict_at<const M: usize, const K: usize>(
     fir: &[i32; M],
     iir: &[i32; K],
@@ -46,6 +46,7 @@ fn predict_at<const M: usize, const K: usize>(
 }
 
 /// Replaces the residuals of the block by outputs, and puts the differences of these into their line.
+#[inline(always)]
 pub fn restore_line<const M: usize, const K: usize>(
     fir: &[i32; M],
     iir: &[i32; K],
@@ -79,7 +80,7 @@ pub fn restore_line<const M: usize, const K: usize>(
 
 /// Replaces the residuals of a block by outputs, from the latest outputs and differences on, which come before the
 /// block in the lines.
-#[inline]
+#[inline(always)]
 pub fn restore_between<const M: usize, const K: usize>(
     fir: &[i32; M],
     iir: &[i32; K],
@@ -87,8 +88,8 @@ pub fn restore_between<const M: usize, const K: usize>(
     step: u8,
     latest_outputs: &[i32],
     latest_differences: &[i32],
-    outputs: &mut [i32; 176],
-    differences: &mut [i32; 176],
+    outputs: &mut [i32],
+    differences: &mut [i32],
     block: &mut [i32],
 )
     requires fir_few { M ≤ 16 }
@@ -99,9 +100,10 @@ pub fn restore_between<const M: usize, const K: usize>(
     requires step { step < 16 }
     requires outputs_few { length latest_outputs.now ≤ 16 }
     requires differences_few { length latest_differences.now ≤ 16 }
-    requires outputs_empty { outputs.old ≡ replicate 176 (pos 0) }
-    requires differences_empty { differences.old ≡ replicate 176 (pos 0) }
-    requires most { length block.old ≤ 160 }
+    requires outputs_empty { outputs.old ≡ replicate (length outputs.old) (pos 0) }
+    requires differences_empty { differences.old ≡ replicate (length outputs.old) (pos 0) }
+    requires same { length outputs.old ≡ length differences.old }
+    requires most { 16 + length block.old ≤ length outputs.old }
     ensures outputs { let past : Past = record { outputs = latest_outputs.now; differences = latest_differences.now } in
         block.new ≡ outputs_of (filters_in fir.now iir.now shift) past step block.old }
     ensures past { let past : Past = record { outputs = latest_outputs.now; differences = latest_differences.now } in

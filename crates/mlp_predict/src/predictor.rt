@@ -1,6 +1,6 @@
 //! Paired prediction of a channel.
 
-ghost use Rattle.std.specs.Prelude.{◌≡◌, ◌∷◌, ◌-◌, take, ◌<◌, ◌≤◌, ◌↔◌, ◌^◌, pos, neg_ℤ, ◌≤ℤ◌, length, FitsSigned, IfSome, IfNone, IsSome, OnSome, IsTrue, All, false};
+ghost use Rattle.std.specs.Prelude.{◌≡◌, ◌∷◌, ◌+◌, ◌-◌, take, ◌<◌, ◌≤◌, ◌↔◌, ◌^◌, pos, neg_ℤ, ◌≤ℤ◌, length, FitsSigned, IfSome, IfNone, IsSome, OnSome, IsTrue, All, false};
 ghost use Rattle.std.specs.Int.{w32};
 ghost use Rattle.mlp_arith.specs.Words.{clear};
 ghost use Rattle.mlp_predict.specs.Prediction.{predicted, restored, reduced, past_after, past_of, outputs_of, residuals_of, with_state, latest, AreSmall, zeros};
@@ -281,8 +281,8 @@ impl<const F: usize, const I: usize> Predictor<F, I> {
         true
     }
 
-    /// A block of outputs, by sums of `M` and `K` products.
-    fn restore_with<const M: usize, const K: usize>(
+    /// A block of outputs, by sums of `M` and `K` products, in lines of `L` values.
+    fn restore_with<const M: usize, const K: usize, const L: usize>(
         &mut self,
         fir: &Filter<F>,
         iir: &Filter<I>,
@@ -297,14 +297,15 @@ impl<const F: usize, const I: usize> Predictor<F, I> {
         requires iir_few { length iir.now.coeffs.items ≤ K }
         requires filters { AreFilters fir.now iir.now }
         requires step { step < 16 }
-        requires most { length block.old ≤ 160 }
+        requires line { L ≤ 176 }
+        requires most { 16 + length block.old ≤ L }
         ensures outputs { block.new ≡ outputs_of (filters_of fir.now iir.now) self.old step block.old }
         ensures past { self.new ≡ latest F I (past_of (filters_of fir.now iir.now) self.old block.new) }
     {
         let fir_taps: [i32; M] = taps_back(fir.coeffs.as_slice(), fir.coeff_shift);
         let iir_taps: [i32; K] = taps_back(iir.coeffs.as_slice(), iir.coeff_shift);
-        let mut outputs = [0; 176];
-        let mut differences = [0; 176];
+        let mut outputs = [0; L];
+        let mut differences = [0; L];
         restore_between(
             &fir_taps,
             &iir_taps,
@@ -321,6 +322,46 @@ impl<const F: usize, const I: usize> Predictor<F, I> {
         self.differences.replace_all(&differences[..end]);
     }
 
+    /// As `restore_block`, in lines of `L` values.
+    fn restore_in<const L: usize>(
+        &mut self,
+        fir: &Filter<F>,
+        iir: &Filter<I>,
+        step: u8,
+        block: &mut [i32],
+    )
+        requires any_output { 0 < F }
+        requires any_difference { 0 < I }
+        requires fir_room { F ≤ 16 }
+        requires iir_room { I ≤ 16 }
+        requires filters { AreFilters fir.now iir.now }
+        requires step { step < 16 }
+        requires line { L ≤ 176 }
+        requires most { 16 + length block.old ≤ L }
+        ensures outputs { block.new ≡ outputs_of (filters_of fir.now iir.now) self.old step block.old }
+        ensures past { self.new ≡ latest F I (past_of (filters_of fir.now iir.now) self.old block.new) }
+    {
+        let order = fir.coeffs.as_slice().len();
+        let iir_order = iir.coeffs.as_slice().len();
+        if iir_order == 0 {
+            return match order {
+                0..=2 => self.restore_with::<2, 0, L>(fir, iir, step, block),
+                3..=4 => self.restore_with::<4, 0, L>(fir, iir, step, block),
+                5..=8 => self.restore_with::<8, 0, L>(fir, iir, step, block),
+                _ => self.restore_with::<16, 0, L>(fir, iir, step, block),
+            };
+        }
+        if iir_order > 4 {
+            return self.restore_with::<16, 16, L>(fir, iir, step, block);
+        }
+        match order {
+            0..=2 => self.restore_with::<2, 4, L>(fir, iir, step, block),
+            3..=4 => self.restore_with::<4, 4, L>(fir, iir, step, block),
+            5..=8 => self.restore_with::<8, 4, L>(fir, iir, step, block),
+            _ => self.restore_with::<16, 4, L>(fir, iir, step, block),
+        }
+    }
+
     /// Replaces a block of residuals by the outputs that `restore` gives for them one after another.
     pub fn restore_block(&mut self, fir: &Filter<F>, iir: &Filter<I>, step: u8, block: &mut [i32])
         requires any_output { 0 < F }
@@ -333,25 +374,11 @@ impl<const F: usize, const I: usize> Predictor<F, I> {
         ensures outputs { block.new ≡ outputs_of (filters_of fir.now iir.now) self.old step block.old }
         ensures past { self.new ≡ latest F I (past_of (filters_of fir.now iir.now) self.old block.new) }
     {
-        let order = fir.coeffs.as_slice().len();
-        let iir_order = iir.coeffs.as_slice().len();
-        if iir_order == 0 {
-            return match order {
-                0..=2 => self.restore_with::<2, 0>(fir, iir, step, block),
-                3..=4 => self.restore_with::<4, 0>(fir, iir, step, block),
-                5..=8 => self.restore_with::<8, 0>(fir, iir, step, block),
-                _ => self.restore_with::<16, 0>(fir, iir, step, block),
-            };
+        // Short lines are cheaper to clear.
+        if block.len() <= 48 {
+            return self.restore_in::<64>(fir, iir, step, block);
         }
-        if iir_order > 4 {
-            return self.restore_with::<16, 16>(fir, iir, step, block);
-        }
-        match order {
-            0..=2 => self.restore_with::<2, 4>(fir, iir, step, block),
-            3..=4 => self.restore_with::<4, 4>(fir, iir, step, block),
-            5..=8 => self.restore_with::<8, 4>(fir, iir, step, block),
-            _ => self.restore_with::<16, 4>(fir, iir, step, block),
-        }
+        self.restore_in::<176>(fir, iir, step, block)
     }
 
     /// A block of residuals, by sums of `M` and `K` products; false where some residual hasn't 32 signed bits.

@@ -27,7 +27,7 @@ returns g c =
     let long : length (take 16 l1) ≡ 16 = length-take-le 16 l1 (omega arith) in
     let in_line : take (16 + n) full ≡ take 16 l1 ++ block = take-put_mid 16 (16 + n - 16) l1 b (16 + n) (omega arith) (omega arith) ∙ ap (λ (ys : List ℤ). take 16 l1 ++ ys) after in
     let done : BlockDone f c.args.step past block out dif =
-    block_done f c.args.step past block (take (16 + n) full) (take (16 + n) l2) out dif l1 l2 c.requires.outputs_few c.requires.differences_few
+    block_done (length c.args.outputs.now) f c.args.step past block (take (16 + n) full) (take (16 + n) l2) out dif l1 l2 (omega arith) c.requires.outputs_few c.requires.differences_few
     (c.put_before.ensures ∙ ap (λ (zs : List ℤ). take (16 - length vs) zs ++ reverse vs ++ drop 16 zs) c.requires.outputs_empty)
     (c.put_before-2.ensures ∙ ap (λ (zs : List ℤ). take (16 - length ds) zs ++ reverse ds ++ drop 16 zs) c.requires.differences_empty)
     long in_line (take-take 16 (16 + n) l2 (omega arith)) c.restore_line.ensures.outputs c.restore_line.ensures.past in
