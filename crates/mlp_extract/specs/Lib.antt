@@ -1,2 +1,5 @@
 pub mod Extract
 pub mod Extracting
+pub mod Extractor
+pub mod SessionLaws
+pub mod Laws

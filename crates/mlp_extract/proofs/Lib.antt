@@ -1,0 +1,5 @@
+pub mod UnitBytes
+pub mod Given
+pub mod ExtractSteps
+pub mod ExtractFollows
+pub mod ExtractLaws
