@@ -1,5 +1,6 @@
 -- What stands after each turn of the loop, and what follows at each exit.
-use Rattle.std.proofs.Common.{◌≡◌, ℕ, ◌+◌, ◌-◌, ◌<◌, ◌≤◌, ◌++◌, Bool, true, false, List, [], ◌∷◌, length, take, drop, Result, Ok, Err, Option, Some, None, IfSome, OnOk, IfErr, inl, inr, refl, sym, ap, subst, ◌∙◌, append_assoc, arith, length-drop, length-append, take-append-drop, if◌then◌else◌}
+use Rattle.std.proofs.Common.{◌≡◌, ℕ, ◌+◌, ◌-◌, ◌<◌, ◌≤◌, ◌++◌, Bool, true, false, List, [], ◌∷◌, length, take, drop, Result, Ok, Err}
+use Rattle.std.proofs.Common.{Option, Some, None, IfSome, OnOk, IfErr, inl, inr, refl, sym, ap, subst, ◌∙◌, append_assoc, arith, length-drop, length-append, take-append-drop, if◌then◌else◌}
 use Rattle.std.proofs.lemmas.Bool.{cases_lt, lt-leb, le-leb}
 use Rattle.std.proofs.lemmas.List.{append-nil, nil_from_length, take_at}
 use Rattle.std.proofs.Math.Seq.{take-append-add}
