@@ -4,3 +4,4 @@ pub mod Moved
 pub mod Extraction
 pub mod Again
 pub mod ExLaw
+pub mod Timing
