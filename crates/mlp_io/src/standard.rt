@@ -17,6 +17,7 @@ const PIECE: usize = 16_384;
 pub struct StdSource<R: Read> {
     inner: R,
     faults: u64,
+    piece: [u8; PIECE],
 }
 
 impl<R: Read> Model for StdSource<R> {
@@ -30,7 +31,11 @@ impl<R: Read> StdSource<R> {
     pub fn new(inner: R) -> StdSource<R>
         ensures { result ≡ record { bytes_left = R.remaining inner; failed = 0 } }
     {
-        StdSource { inner, faults: 0 }
+        StdSource {
+            inner,
+            faults: 0,
+            piece: [0; PIECE],
+        }
     }
 }
 
@@ -56,8 +61,8 @@ impl<R: Read> Source for StdSource<R> {
         ensures cause { HasCause (capped self.old.failed) (capped self.new.failed) result }
         ensures count { MatchResult result (λ _. self.new.failed ≡ self.old.failed) (λ _. self.new.failed ≡ next_count self.old.failed) }
     {
-        let mut piece = [0u8; PIECE];
         let count = buf.len().min(PIECE);
+        let piece = &mut self.piece[..];
         match self.inner.read(&mut piece[..count]) {
             Ok(taken) => {
                 buf[..taken].copy_from_slice(&piece[..taken]);
