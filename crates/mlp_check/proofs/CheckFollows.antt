@@ -39,8 +39,7 @@ use Rattle.mlp_fifo.proofs.CheckedLaws.{none_timed, checked_leaves}
 use Rattle.mlp_present.specs.Decoding.{is_open_behind, last_of, no_unit, after_unit, timing_by, channels_by}
 use Rattle.mlp_samples.proofs.SyncLaws.{unit_usable, unit_synced}
 use Rattle.mlp_sessions.proofs.NoUnit.{none_read}
-use Rattle.mlp_sessions.proofs.PlayFollows.{frames_on}
-use Rattle.mlp_sessions.specs.Playing.{frames_given}
+use Rattle.mlp_samples.specs.Samples.{frames_by_steps}
 use Rattle.mlp_check.specs.declared.report.Report.{Report}
 use Rattle.mlp_check.specs.Checking.{output_timing, timed_unit, rate_by, left_behind, IsReport, checking}
 use Rattle.mlp_check.specs.Check.{CheckState, check_opened, begun, timing_in, one_if, after_checked, check_reader, check_step, report_of, report_after, check_last, HasChecked, Checked}
@@ -49,6 +48,13 @@ use Rattle.mlp_check.proofs.Restarts.{timing_is}
 use Rattle.mlp_check.proofs.Reports.{checking_is}
 
 -- ---- sums over one more unit
+
+frames_on : (k : ℕ) (left : Left) (us : List Unit_of) (u : Unit_of)
+    → length (frames_by_steps k left (us ++ u ∷ [])) ≡ length (frames_by_steps k left us) + length (frames_out k (left_after (whole k) left us) u)
+frames_on k left [] u = omega (arith, length-append (frames_out k left u) [])
+frames_on k left (v ∷ us) u =
+    let more = frames_by_steps k (after k left v) (us ++ u ∷ []) in
+    omega (arith, frames_on k (after k left v) us u, length-append (frames_out k left v) more, length-append (frames_out k left v) (frames_by_steps k (after k left v) us))
 
 count_on : (p : Unit_of → Bool) (us : List Unit_of) (u : Unit_of) → count_by p (us ++ u ∷ []) ≡ count_by p us + one_if (p u)
 count_on p us u = omega (arith, sum_by-append (λ v. one_if (p v)) us (u ∷ []))
@@ -141,8 +147,8 @@ module _ (k : ℕ) (us : List Unit_of) (s : CheckState) (u : Unit_of) (text : Li
     usable = usable_on k us u text next h.usable;
     frames =
         ap (λ (n : ℕ). n + length (frames_out s.held.k s.held.left u)) h.frames
-        ∙ ap (λ (j : ℕ). frames_given k (start k) us + length (frames_out j s.held.left u)) h.k_is
-        ∙ ap (λ (left : Left). frames_given k (start k) us + length (frames_out k left u)) h.left
+        ∙ ap (λ (j : ℕ). length (frames_by_steps k (start k) us) + length (frames_out j s.held.left u)) h.k_is
+        ∙ ap (λ (left : Left). length (frames_by_steps k (start k) us) + length (frames_out k left u)) h.left
         ∙ sym (frames_on k (start k) us u);
     restarts = ap (λ (n : ℕ). n + one_if (is_some u.outer.major)) h.restarts ∙ sym (count_on (λ v. is_some v.outer.major) us u);
     some = λ none. record {

@@ -4,3 +4,4 @@ pub mod Timings
 pub mod Reports
 pub mod CheckSteps
 pub mod CheckFollows
+pub mod ReportLaws

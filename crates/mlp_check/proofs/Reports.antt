@@ -9,7 +9,7 @@ use Rattle.mlp_answers.proofs.SomeAnswer.{has_one_answer}
 use Rattle.mlp_contents.specs.Units.{Unit_of, start}
 use Rattle.mlp_contents.proofs.FormatLaws.{whole_is, whole_bytes}
 use Rattle.mlp_present.specs.Decoding.{channels_by}
-use Rattle.mlp_sessions.specs.Playing.{frames_given}
+use Rattle.mlp_samples.specs.Samples.{frames_by_steps}
 use Rattle.mlp_sessions.specs.PlayLaws.{whole_open}
 use Rattle.mlp_check.specs.declared.report.Report.{Report}
 use Rattle.mlp_check.specs.Report.{report_text}
@@ -19,7 +19,7 @@ use Rattle.mlp_check.proofs.Timings.{timed_decided}
 abbrev pub report_with : ℕ → List Unit_of → Bool → Report
 report_with k us timed = record {
   units = length us;
-  frames = frames_given k (start k) us;
+  frames = length (frames_by_steps k (start k) us);
   channels = channels_by k (left_behind k us);
   rate = rate_by (left_behind k us).sync;
   restarts = count_by (λ u. is_some u.outer.major) us;

@@ -17,7 +17,7 @@ use Rattle.mlp_contents.specs.Units.{Left, Unit_of, start, whole, frames_out}
 use Rattle.mlp_fifo.specs.Timed.{TimedUnit, LeftChecker, LeavesTimed}
 use Rattle.mlp_fifo.specs.Checked.{empty_checker, checked_after}
 use Rattle.mlp_present.specs.Decoding.{Held, opened, after_unit, channels_by, is_open_behind, last_word}
-use Rattle.mlp_sessions.specs.Playing.{frames_given}
+use Rattle.mlp_samples.specs.Samples.{frames_by_steps}
 use Rattle.mlp_check.specs.declared.report.Report.{Report}
 use Rattle.mlp_check.specs.Report.{report_text}
 use Rattle.mlp_check.specs.Checking.{timed_unit, rate_by, left_behind}
@@ -118,6 +118,6 @@ pub record Checked (k : ℕ) (us : List Unit_of) (s : CheckState) : Type 0 where
   pub left : s.held.left ≡ left_behind k us
   pub refusal : s.held.refusal ≡ None
   pub usable : FirstUsable (left_behind k us).sync
-  pub frames : s.frames ≡ frames_given k (start k) us
+  pub frames : s.frames ≡ length (frames_by_steps k (start k) us)
   pub restarts : s.restarts ≡ count_by (λ u. is_some u.outer.major) us
   pub some : us ≢ [] → HasChecked k us s

@@ -11,7 +11,7 @@ use Rattle.mlp_contents.specs.Known.{first_restart}
 use Rattle.mlp_contents.specs.Units.{Left, Unit_of, start, whole, top_of}
 use Rattle.mlp_fifo.specs.Timed.{TimedUnit, AreTimed}
 use Rattle.mlp_present.specs.Decoding.{channels_by, is_open_behind}
-use Rattle.mlp_sessions.specs.Playing.{frames_given}
+use Rattle.mlp_samples.specs.Samples.{frames_by_steps}
 use Rattle.mlp_check.specs.declared.report.Report.{Report}
 use Rattle.mlp_check.specs.Report.{report_text}
 
@@ -43,7 +43,7 @@ left_behind k us = left_after (whole k) (start k) us
 -- what is said of these units
 pub record IsReport (k : ℕ) (us : List Unit_of) (r : Report) : Type 0 where
   pub units : r.units ≡ length us
-  pub frames : r.frames ≡ frames_given k (start k) us
+  pub frames : r.frames ≡ length (frames_by_steps k (start k) us)
   pub channels : r.channels ≡ channels_by k (left_behind k us)
   pub rate : r.rate ≡ rate_by (left_behind k us).sync
   pub restarts : r.restarts ≡ count_by (λ u. is_some u.outer.major) us

@@ -43,7 +43,7 @@ playing_is k bits = record {
 
 -- ---- one more unit was taken
 
-pub frames_on : (k : ℕ) (left : Left) (us : List Unit_of) (u : Unit_of) → frames_given k left (us ++ u ∷ []) ≡ frames_given k left us + length (frames_out k (left_after (whole k) left us) u)
+frames_on : (k : ℕ) (left : Left) (us : List Unit_of) (u : Unit_of) → frames_given k left (us ++ u ∷ []) ≡ frames_given k left us + length (frames_out k (left_after (whole k) left us) u)
 frames_on k left [] u = omega arith
 frames_on k left (v ∷ us) u = omega (arith, frames_on k (after k left v) us u)
 
