@@ -1,5 +1,6 @@
 pub mod NoUnit
 pub mod ListSteps
 pub mod ListFollows
+pub mod Rates
 pub mod PlaySteps
 pub mod PlayFollows

@@ -1,6 +1,7 @@
 -- The session of `decode-raw` does its work.
-use Rattle.std.proofs.Common.{◌≡◌, ℕ, ◌+◌, ◌==◌, ◌++◌, if◌then◌else◌, Bool, false, List, [], ◌∷◌, length, Result, Ok, Err, Option, Some, None, refl, sym, ap, subst, ◌∙◌, arith, length-append}
+use Rattle.std.proofs.Common.{◌≡◌, ℕ, ◌+◌, ◌==◌, ◌++◌, if◌then◌else◌, Bool, false, List, [], ◌∷◌, length, Result, Ok, Err, Option, Some, None, IfSome, refl, sym, ap, subst, ◌∙◌, arith, length-append}
 use Rattle.std.proofs.lemmas.Bool.Decides.{nat_tests}
+use Rattle.std.proofs.lemmas.List.{get_or-replicate}
 use Rattle.std.specs.Option.{option_map}
 use Rattle.mlp_syntax.specs.declared.fault.Field.TheVariants as rule
 use Rattle.mlp_syntax.specs.declared.segment.Segment.{Segment}
@@ -17,17 +18,19 @@ use Rattle.mlp_stream.specs.declared.refusal.Refusal.{Refusal}
 use Rattle.mlp_walk.specs.declared.refusal.Refusal.{Refusal as Declined}
 use Rattle.mlp_walk.specs.Next.{Taken}
 use Rattle.mlp_answers.specs.Working.{IsWorking}
-use Rattle.mlp_answers.specs.Answers.{HasOneAnswer}
+use Rattle.mlp_answers.specs.Answers.{AreUnits, HasOneAnswer}
 use Rattle.mlp_answers.specs.Works.{Works}
 use Rattle.mlp_answers.specs.Reading.{refusal_of, read_step}
 use Rattle.mlp_answers.specs.Follows.{next_behind, IsMoved, IsLast, Follows, IsGiven, ReadsOn}
 use Rattle.mlp_answers.proofs.ReadingLaws.{read_follows}
-use Rattle.mlp_answers.proofs.RunLaws.{works}
+use Rattle.mlp_answers.proofs.RunLaws.{works, took_all}
 use Rattle.mlp_answers.proofs.SomeAnswer.{has_one_answer}
 use Rattle.mlp_outline.proofs.NextParts.{next_broken}
+use Rattle.mlp_channels.specs.Channels.{Coded, nothing_coded}
+use Rattle.mlp_contents.specs.Inner.{channels_of}
 use Rattle.mlp_contents.specs.Units.{Left, Unit_of, start, whole, after, frames_out}
 use Rattle.mlp_contents.proofs.FormatLaws.{whole_is, whole_bytes}
-use Rattle.mlp_present.specs.Decoding.{is_open_behind, last_of, no_unit}
+use Rattle.mlp_present.specs.Decoding.{channels_by, is_open_behind, last_of, no_unit}
 use Rattle.mlp_sessions.specs.Playing.{unit_played, frames_given, playing, Player, player, after_played, with_session, decode_reader, decode_step, on_end, decode_last, Played}
 use Rattle.mlp_sessions.specs.PlayLaws.{whole_open}
 use Rattle.mlp_sessions.proofs.NoUnit.{none_read}
@@ -47,13 +50,17 @@ frames_on : (k : ℕ) (left : Left) (us : List Unit_of) (u : Unit_of) → frames
 frames_on k left [] u = omega arith
 frames_on k left (v ∷ us) u = omega (arith, frames_on k (after k left v) us u)
 
+left_on : (k bits : ℕ) (us : List Unit_of) (s : Player) (u : Unit_of) → Played k bits us s → after s.held.k s.held.left u ≡ left_after (whole k) (start k) (us ++ u ∷ [])
+left_on k bits us s u h =
+    ap (λ (j : ℕ). after j s.held.left u) h.k_is ∙ ap (λ (left : Left). after k left u) h.left
+    ∙ sym (left_more (whole k) (whole_is k) (start k) us (u ∷ []))
+
 played_on : (k bits : ℕ) (us : List Unit_of) (s : Player) (u : Unit_of) → Played k bits us s → Played k bits (us ++ u ∷ []) (after_played s u)
 played_on k bits us s u h = record {
   k_is = h.k_is;
   units = omega (arith, h.units, length-append us (u ∷ []));
-  left =
-      ap (λ (j : ℕ). after j s.held.left u) h.k_is ∙ ap (λ (left : Left). after k left u) h.left
-      ∙ sym (left_more (whole k) (whole_is k) (start k) us (u ∷ []));
+  left = left_on k bits us s u h;
+  channels = ap (λ (j : ℕ). channels_by j (after s.held.k s.held.left u)) h.k_is ∙ ap (channels_by k) (left_on k bits us s u h);
   refusal = refl;
   bits_are = h.bits_are;
   frames =
@@ -83,6 +90,13 @@ reads_on k bits = record {
   refusal = λ us s h. ap (option_map refusal_of) h.refusal;
   given = λ us s bytes t h next. given_by k bits us s t h (unit_played s.held.k s.bits s.frames s.held.left t.unit) (out_same k bits us s t.unit h);
 }
+
+-- no unit, no channel
+none_heard : (k : ℕ) → channels_by k (start k) ≡ 0
+none_heard k = ap (λ (x : Coded). channels_of x.force) (get_or-replicate (k + 1) k nothing_coded nothing_coded (omega arith))
+
+none_played : (k bits : ℕ) → Played k bits [] (player k bits)
+none_played k bits = record { k_is = refl; units = refl; left = refl; channels = sym (none_heard k); refusal = refl; bits_are = refl; frames = refl }
 
 -- ---- the end
 
@@ -119,8 +133,12 @@ follows k bits =
 -- what a run of the session says
 pub decode_works : (k bits : ℕ) (t : Player) (input output : Side) (end : Result Unit Stop) → Pumped decode_step decode_last 0 (player k bits) t input output end → Works (playing k bits) input output end
 decode_works k bits t input output end p =
-    works (playing k bits) (playing_is k bits) (Played k bits) decode_step decode_last (follows k bits) (player k bits) t input output end
-    (record { k_is = refl; units = refl; left = refl; refusal = refl; bits_are = refl; frames = refl }) p
+    works (playing k bits) (playing_is k bits) (Played k bits) decode_step decode_last (follows k bits) (player k bits) t input output end (none_played k bits) p
+
+-- .. and of the session behind it: where it ends well, all units were taken
+pub decode_took : (k bits : ℕ) (t : Player) (input output : Side) → Pumped decode_step decode_last 0 (player k bits) t input output (Ok tt) → IfSome input.before (λ all. (us : List Unit_of) × AreUnits (playing k bits) all us × Played k bits us t)
+decode_took k bits t input output p =
+    took_all (playing k bits) (playing_is k bits) (Played k bits) decode_step decode_last (follows k bits) (player k bits) t input output (none_played k bits) p
 
 pub decode_has_one : (k bits : ℕ) (all : List ℕ) → HasOneAnswer (playing k bits) all
 decode_has_one k bits = has_one_answer (playing k bits) (playing_is k bits)

@@ -1,5 +1,5 @@
 -- The session of `decode-raw` is one: what a trait asks of it, with its proof.
-use Rattle.std.proofs.Common.{◌≡◌, ℕ, ◌+◌, List, length, Result, Ok, Err, Some, sym, ap, arith}
+use Rattle.std.proofs.Common.{◌≡◌, ℕ, List, Result, Ok, Err, Some, sym, ap}
 use Rattle.mlp_syntax.specs.declared.segment.Segment.{Segment}
 use Rattle.mlp_unit.specs.AccessUnit.{AccessUnit}
 use Rattle.mlp_stream.specs.declared.refusal.Refusal.{Refusal}

@@ -1,9 +1,10 @@
 //! The session of `decode-raw`.
 ghost use Rattle.std.specs.Prelude.{◌≡◌, ◌+◌, ◌^◌, ◌<◌, ◌≤◌, ◌⊎◌, length, Ok, Err, IfOk, IfErr};
-ghost use Rattle.mlp_sessions.specs.Playing.{player, places, played};
+ghost use Rattle.mlp_sessions.specs.Playing.{player, places, rate_by, played};
 
 use arrayvec::ArrayVec;
 use mlp_answers::refusal_of;
+use mlp_major::sample_rate;
 use mlp_pcm::pack_unit;
 use mlp_present::Decoder;
 use mlp_stream::{Refusal, Session};
@@ -22,13 +23,15 @@ pub struct Decode {
 
 impl Model for Decode {
     ghost use Rattle.std.specs.Prelude.{◌≡◌, ◌*◌, ◌≤◌, ◌⊎◌};
+    ghost use Rattle.mlp_unit.specs.Written.{FirstUsable};
     ghost use Rattle.mlp_sessions.specs.Playing.{Player};
 
     ghost Value = { Player };
 
     ghost view = { λ s. record { held = s.decoder; bits = s.bits; frames = s.given } };
 
-    ghost invariant = { λ s. ((s.bits ≡ 16) ⊎ (s.bits ≡ 24)) × (s.given ≤ 160 * s.decoder.units) };
+    ghost invariant = { λ s. ((s.bits ≡ 16) ⊎ (s.bits ≡ 24)) × (s.given ≤ 160 * s.decoder.units)
+        × FirstUsable s.decoder.left.sync };
 }
 
 /// The channels of a frame, which has places for 8.
@@ -76,11 +79,22 @@ impl Decode {
         }
     }
 
-    /// The number of output channels of the presentation, 0 where no unit was taken.
+    /// The number of channels of the frames that come out, 0 to 8; 0 where no unit was taken.
     pub fn channels(&self) -> u8
-        ensures { result ≡ self.now.held.channels }
+        ensures { result ≡ places self.now.held.channels }
     {
-        self.decoder.channels()
+        places(self.decoder.channels())
+    }
+
+    /// The sampling rate in hertz, 44100 to 192000; 0 where no unit was taken.
+    pub fn rate(&self) -> u32
+        ensures rate { result ≡ rate_by self.now.held.left.sync }
+        ensures most { result ≤ 192000 }
+    {
+        match self.decoder.major() {
+            Some(major) => sample_rate(major),
+            None => 0,
+        }
     }
 }
 

@@ -1,6 +1,7 @@
-use Rattle.std.proofs.Common.{Err, ap, ◌∙◌}
+use Rattle.std.proofs.Common.{Err, ap, ◌∙◌, rules}
 use Rattle.std.proofs.lemmas.Result.{err_from_is_err_and}
 use Rattle.mlp_stream.specs.declared.refusal.Refusal.{Refusal}
+use Rattle.mlp_sessions.proofs.Rates.{usable_behind}
 use Rattle.mlp_sessions.proofs.PlaySteps.{decode_taken, decode_lacking, decode_declined}
 use Rattle.mlp_sessions.proofs.decode.DecodeSession.unit.Goals as goal
 
@@ -19,3 +20,9 @@ returns-in_ok-self-inside-in-Ok c =
 pub returns-in-Err : goal.returns-in-Err
 returns-in-Err c =
     decode_declined c.self.inside.decoder c.self.inside.bits c.self.inside.given c.args.next.now c.in-Err.refusal c.refusal_of.result c.in-Err.ensures.unit c.refusal_of.ensures c.args.self.now c.self.view_is
+
+pub invariant_of-self : goal.invariant_of-self
+invariant_of-self c = (c.self.invariant.0, search rules, usable_behind _ _ _ _ _ c.in-Ok.ensures.unit c.self.invariant.2)
+
+pub invariant_of-self-in-Ok : goal.invariant_of-self-in-Ok
+invariant_of-self-in-Ok c = (c.self.invariant.0, search rules, usable_behind _ _ _ _ _ c.in-Ok.ensures.unit c.self.invariant.2)

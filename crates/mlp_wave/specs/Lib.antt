@@ -1,0 +1,3 @@
+pub mod WaveFile
+pub mod Saved
+pub mod Failures
