@@ -38,12 +38,12 @@ use Rattle.mlp_fifo.specs.Checked.{checked_after}
 use Rattle.mlp_fifo.proofs.CheckedLaws.{none_timed, checked_leaves}
 use Rattle.mlp_present.specs.Decoding.{is_open_behind, last_of, no_unit, after_unit, timing_by, channels_by}
 use Rattle.mlp_samples.proofs.SyncLaws.{unit_usable, unit_synced}
+use Rattle.mlp_sessions.specs.Playing.{rate_by}
 use Rattle.mlp_sessions.proofs.NoUnit.{none_read}
 use Rattle.mlp_samples.specs.Samples.{frames_by_steps}
 use Rattle.mlp_check.specs.declared.report.Report.{Report}
-use Rattle.mlp_check.specs.Checking.{output_timing, timed_unit, rate_by, left_behind, IsReport, checking}
-use Rattle.mlp_check.specs.Check.{CheckState, check_opened, begun, timing_in, one_if, after_checked, check_reader, check_step, report_of, report_after, check_last, HasChecked, Checked}
-use Rattle.mlp_check.proofs.CheckSteps.{sync_after}
+use Rattle.mlp_check.specs.Checking.{output_timing, timing_in, timed_unit, left_behind, IsReport, checking}
+use Rattle.mlp_check.specs.Check.{CheckState, check_opened, begun, one_if, after_checked, check_reader, check_step, report_of, report_after, check_last, HasChecked, Checked}
 use Rattle.mlp_check.proofs.Restarts.{timing_is}
 use Rattle.mlp_check.proofs.Reports.{checking_is}
 
@@ -86,7 +86,8 @@ module _ (k : ℕ) (us : List Unit_of) (u : Unit_of) (text : List Bool) (next : 
   small = (parts_of (left_behind k us).sync u.outer (λ none. usable) found.fits found.meets).timing
 
   sync_on : (left_behind k (us ++ u ∷ [])).sync ≡ in_force (left_behind k us).sync u.outer.major
-  sync_on = ap (λ (left : Left). left.sync) (behind_on k us u) ∙ sync_after k (left_behind k us) u
+  unfolding after
+  sync_on = ap (λ (left : Left). left.sync) (behind_on k us u)
 
   usable_on : FirstUsable (left_behind k (us ++ u ∷ [])).sync
   usable_on = subst FirstUsable (sym sync_on) (unit_usable (left_behind k us).sync text u.outer usable found)

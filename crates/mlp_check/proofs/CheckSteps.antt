@@ -9,7 +9,7 @@ use Rattle.mlp_syntax.specs.declared.unit.Outer.{Outer}
 use Rattle.mlp_bits.specs.Bits.{bits_of}
 use Rattle.mlp_layout.specs.Layout.{Found, tested}
 use Rattle.mlp_layout.proofs.LayoutLaws.{tested_is, is_found}
-use Rattle.mlp_unit.specs.AccessUnit.{AccessUnit, access_unit, in_force}
+use Rattle.mlp_unit.specs.AccessUnit.{AccessUnit, access_unit}
 use Rattle.mlp_unit.specs.Shape.{unit_with}
 use Rattle.mlp_unit.specs.Written.{FirstUsable}
 use Rattle.mlp_unit.proofs.Reread.{parts_of}
@@ -20,17 +20,11 @@ use Rattle.mlp_stream.specs.declared.refusal.Refusal.{Refusal}
 use Rattle.mlp_stream.specs.Moves.{Move, Waits, Takes, Refuses}
 use Rattle.mlp_answers.specs.Reading.{refusal_of}
 use Rattle.mlp_answers.proofs.ReadingLaws.{stepped, step_is}
-use Rattle.mlp_contents.specs.Units.{Left, Unit_of, whole, after, frames_out}
+use Rattle.mlp_contents.specs.Units.{Unit_of, whole, frames_out}
 use Rattle.mlp_fifo.specs.Timed.{LeftChecker}
-use Rattle.mlp_samples.proofs.SyncLaws.{unit_usable}
 use Rattle.mlp_present.specs.Parts.{Next}
 use Rattle.mlp_present.specs.Decoding.{Held, unless_refused, next_unit, after_unit, is_open_behind, waits, GivesUnit}
 use Rattle.mlp_check.specs.Check.{CheckState, timed_after, one_if, after_checked, check_reader, check_step}
-
--- the first major sync behind one more unit
-pub sync_after : (k : ℕ) (left : Left) (u : Unit_of) → (after k left u).sync ≡ in_force left.sync u.outer.major
-unfolding after
-sync_after k left u = refl
 
 -- ---- by what comes of the next unit, or came
 
@@ -103,11 +97,6 @@ module _ (held : Held) (bytes : List ℕ) (size : ℕ) (rows : List (List ℤ)) 
   -- its length in words has 12 bits
   pub words_short : FirstUsable held.left.sync → g.outer.head.words < 4096
   words_short usable = (parts_of held.left.sync (unit_with (take size bytes) g.outer) (λ none. usable) outer_found.fits outer_found.meets).head_fits.1
-
-  pub sync_usable : FirstUsable held.left.sync → FirstUsable new.left.sync
-  sync_usable usable =
-      subst FirstUsable (sym (ap (λ (h : Held). h.left.sync) g.held_is ∙ sync_after held.k held.left g.unit ∙ ap (λ (o : Option MajorSync). in_force held.left.sync o) major_is))
-      (unit_usable held.left.sync (bits_of bytes) (unit_with (take size bytes) g.outer) usable outer_found)
 
   module _ (checker later : LeftChecker) (frames restarts all syncs : ℕ) (outer : Outer) (output : Option ℕ) (same : outer ≡ g.outer) (told : output ≡ new.timing)
       (timed : later ≡ timed_after held.units outer.head outer.major output checker) (given : all ≡ frames + length rows) (counted : syncs ≡ restarts + one_if (is_some outer.major)) where

@@ -10,10 +10,11 @@ use Rattle.mlp_contents.specs.Units.{Unit_of, start}
 use Rattle.mlp_contents.proofs.FormatLaws.{whole_is, whole_bytes}
 use Rattle.mlp_present.specs.Decoding.{channels_by}
 use Rattle.mlp_samples.specs.Samples.{frames_by_steps}
+use Rattle.mlp_sessions.specs.Playing.{rate_by}
 use Rattle.mlp_sessions.specs.PlayLaws.{whole_open}
 use Rattle.mlp_check.specs.declared.report.Report.{Report}
 use Rattle.mlp_check.specs.Report.{report_text}
-use Rattle.mlp_check.specs.Checking.{timed_unit, rate_by, left_behind, IsReport, Reports, checking}
+use Rattle.mlp_check.specs.Checking.{timed_unit, left_behind, IsReport, Reports, checking}
 use Rattle.mlp_check.proofs.Timings.{timed_decided}
 
 abbrev pub report_with : ℕ → List Unit_of → Bool → Report

@@ -14,13 +14,14 @@ use Rattle.mlp_stream.specs.declared.refusal.Refusal.{Refusal}
 use Rattle.mlp_stream.specs.Moves.{Move}
 use Rattle.mlp_answers.specs.Reading.{refusal_of, Reader, read_step}
 use Rattle.mlp_contents.specs.Units.{Left, Unit_of, start, whole, frames_out}
-use Rattle.mlp_fifo.specs.Timed.{TimedUnit, LeftChecker, LeavesTimed}
+use Rattle.mlp_fifo.specs.Timed.{LeftChecker, LeavesTimed}
 use Rattle.mlp_fifo.specs.Checked.{empty_checker, checked_after}
 use Rattle.mlp_present.specs.Decoding.{Held, opened, after_unit, channels_by, is_open_behind, last_word}
 use Rattle.mlp_samples.specs.Samples.{frames_by_steps}
+use Rattle.mlp_sessions.specs.Playing.{rate_by}
 use Rattle.mlp_check.specs.declared.report.Report.{Report}
 use Rattle.mlp_check.specs.Report.{report_text}
-use Rattle.mlp_check.specs.Checking.{timed_unit, rate_by, left_behind}
+use Rattle.mlp_check.specs.Checking.{timing_in, timed_unit, left_behind}
 
 -- a decoder, a checker of timings, and of the units taken the number of frames and of major syncs
 pub record CheckState : Type 0 where
@@ -38,11 +39,7 @@ abbrev pub begun : ℕ → Option MajorSync → LeftChecker → LeftChecker
 begun number None checker = checker
 begun number (Some m) checker = if number == 0 then empty_checker (kind_of m.format) (rate_in_hertz m) else checker
 
--- what the parts of a unit show of its timing
-abbrev pub timing_in : UnitHead → Option ℕ → TimedUnit
-timing_in head output = record { input = head.timing; output = output; bytes = 2 * head.words }
-
--- .. behind it
+-- .. and behind it
 abbrev pub timed_after : ℕ → UnitHead → Option MajorSync → Option ℕ → LeftChecker → LeftChecker
 timed_after number head major output checker = checked_after (begun number major checker) (timing_in head output)
 
@@ -110,7 +107,9 @@ pub record IsChecking (held : Held) (checker : LeftChecker) (timed : Bool) (fram
 pub record HasChecked (k : ℕ) (us : List Unit_of) (s : CheckState) : Type 0 where
   pub channels : s.held.channels ≡ channels_by k (left_behind k us)
   pub synced : is_some (left_behind k us).sync ≡ true
-  pub timed : let sync = (left_behind k us).sync in LeavesTimed (stream_kind sync) (rate_by sync) (map timed_unit us) s.checker
+  pub timed :
+      let sync = (left_behind k us).sync in
+      LeavesTimed (stream_kind sync) (rate_by sync) (map timed_unit us) s.checker
 
 pub record Checked (k : ℕ) (us : List Unit_of) (s : CheckState) : Type 0 where
   pub k_is : s.held.k ≡ k

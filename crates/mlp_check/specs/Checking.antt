@@ -1,8 +1,8 @@
 -- What `check` makes of a stream, for presentation k.
-use Rattle.std.specs.Prelude.{◌≡◌, ◌↔◌, ℕ, ◌*◌, IsTrue, List, [], length, map, count_by, Option, Some, None, option_map, is_some, Result, Ok}
+use Rattle.std.specs.Prelude.{◌≡◌, ◌↔◌, ℕ, ◌*◌, IsTrue, List, [], length, map, count_by, Option, Some, option_map, is_some, Result, Ok}
 use Rattle.mlp_syntax.specs.declared.major.MajorSync.{MajorSync}
 use Rattle.mlp_syntax.specs.declared.segment.Segment.{Segment}
-use Rattle.mlp_major.specs.MajorSync.{rate_in_hertz}
+use Rattle.mlp_syntax.specs.declared.unit.UnitHead.{UnitHead}
 use Rattle.mlp_unit.specs.AccessUnit.{AccessUnit, stream_kind}
 use Rattle.mlp_layout.specs.Streams.{left_after}
 use Rattle.mlp_stream.specs.declared.refusal.Refusal.{Refusal}
@@ -12,6 +12,7 @@ use Rattle.mlp_contents.specs.Units.{Left, Unit_of, start, whole, top_of}
 use Rattle.mlp_fifo.specs.Timed.{TimedUnit, AreTimed}
 use Rattle.mlp_present.specs.Decoding.{channels_by, is_open_behind}
 use Rattle.mlp_samples.specs.Samples.{frames_by_steps}
+use Rattle.mlp_sessions.specs.Playing.{rate_by}
 use Rattle.mlp_check.specs.declared.report.Report.{Report}
 use Rattle.mlp_check.specs.Report.{report_text}
 
@@ -21,16 +22,14 @@ use Rattle.mlp_check.specs.Report.{report_text}
 abbrev pub output_timing : Unit_of → Option ℕ
 output_timing u = option_map (λ r. r.output_timing) (first_restart (top_of 0 u.contents).blocks.items)
 
--- a unit has two bytes a word, extra data among them
+-- by a head, which tells the input timing and the length in words, extra data among them
+abbrev pub timing_in : UnitHead → Option ℕ → TimedUnit
+timing_in head output = record { input = head.timing; output = output; bytes = 2 * head.words }
+
 abbrev pub timed_unit : Unit_of → TimedUnit
-timed_unit u = record { input = u.outer.head.timing; output = output_timing u; bytes = 2 * u.outer.head.words }
+timed_unit u = timing_in u.outer.head (output_timing u)
 
--- the rate of the stream by its first major sync
-abbrev pub rate_by : Option MajorSync → ℕ
-rate_by None = 0
-rate_by (Some m) = rate_in_hertz m
-
--- the units have the timing of a stream of this kind and rate
+-- the units have the timing of a stream of this kind and rate, which its first major sync tells
 abbrev pub KeepTiming : Option MajorSync → List Unit_of → Type 0
 KeepTiming sync us = AreTimed (stream_kind sync) (rate_by sync) (map timed_unit us)
 

@@ -1,10 +1,9 @@
 //! The session of `check`.
 ghost use Rattle.std.specs.Option.{option_copied};
 ghost use Rattle.std.specs.Prelude.{◌≡◌, ◌+◌, ◌<◌, ◌≤◌, ◌^◌, IfOk, IfSome};
-ghost use Rattle.mlp_major.specs.MajorSync.{IsUsable};
+ghost use Rattle.mlp_major.specs.MajorSync.{kind_of, IsUsable};
 ghost use Rattle.mlp_unit.specs.Written.{FirstUsable};
-ghost use Rattle.mlp_major.specs.MajorSync.{kind_of};
-ghost use Rattle.mlp_check.specs.Checking.{rate_by};
+ghost use Rattle.mlp_sessions.specs.Playing.{rate_by};
 ghost use Rattle.mlp_check.specs.Check.{begun, timed_after, one_if};
 
 use crate::report::{Report, put_report};
@@ -70,8 +69,8 @@ fn one_if(holds: bool) -> u64
     if holds { 1 } else { 0 }
 }
 
-/// Checks a stream: reads all of it as a decoder of a presentation does, and tells at the end what it holds and whether it
-/// keeps its timing. It takes all memory that it needs as it is opened.
+/// Checks a stream: reads all of it as a decoder of a presentation does, and tells at the end what it holds and whether
+/// it keeps its timing. It takes all memory that it needs as it is opened.
 #[derive(Drop)]
 pub struct Check {
     decoder: Decoder,
@@ -96,6 +95,10 @@ impl Check {
     ghost use Rattle.mlp_check.specs.Check.{check_opened, report_of};
 
     /// A session that has taken no unit, for a presentation from 0 to 2.
+    ///
+    /// # Errors
+    ///
+    /// `Memory` where there is none for the checker of timings.
     pub fn open(alloc: Global, presentation: u8) -> Result<Check, Memory>
         requires { presentation ≤ 2 }
         ensures { IfOk result (λ s. s ≡ check_opened presentation) }

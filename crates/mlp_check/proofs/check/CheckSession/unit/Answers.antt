@@ -1,8 +1,9 @@
 use Rattle.std.proofs.Common.{◌≡◌, ◌+◌, ◌<◌, ℕ, sym, ap, subst, ◌∙◌, arith}
 use Rattle.mlp_present.specs.Decoding.{Held}
+use Rattle.mlp_sessions.proofs.Rates.{usable_behind}
 use Rattle.mlp_check.specs.Check.{one_if}
 use Rattle.mlp_syntax.specs.declared.unit.Outer.{Outer}
-use Rattle.mlp_check.proofs.CheckSteps.{told_outer, words_short, sync_usable, check_taken, check_declined, one_most}
+use Rattle.mlp_check.proofs.CheckSteps.{told_outer, words_short, check_taken, check_declined, one_most}
 use Rattle.mlp_check.proofs.check.CheckSession.unit.Goals as goal
 
 pub check_timing-self-inside-requires-clause-short : goal.check_timing-self-inside-requires-clause-short
@@ -20,7 +21,7 @@ invariant_of-self c =
       timed_is = c.check_timing-self-inside.ensures.timed;
       few = omega (arith, units, c.self.invariant.few, c.len.ensures.fits);
       fewer = omega (arith, units, c.self.invariant.fewer, one_most c.is_some.result, c.one_if.ensures);
-      usable = sync_usable _ _ _ _ _ g c.self.invariant.usable;
+      usable = usable_behind _ _ _ _ _ g c.self.invariant.usable;
     }
 
 pub returns-in-Ok : goal.returns-in-Ok
