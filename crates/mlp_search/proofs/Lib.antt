@@ -9,3 +9,7 @@ pub mod CandidateLaws
 pub mod ChosenLaws
 pub mod BehindLaws
 pub mod GivenLaws
+pub mod CodeBits
+pub mod SearchLaws
+pub mod Middles
+pub mod States

@@ -1,9 +1,9 @@
 -- Choices that are tried one after the other.
-use Rattle.std.proofs.Common.{◌≡◌, ℕ, zero, suc, ◌+◌, List, [], ◌∷◌, ◌++◌, Option, arith, refl, sym, ◌∙◌, ap, add-one, append_assoc}
+use Rattle.std.proofs.Common.{◌≡◌, ℕ, zero, suc, ◌+◌, ◌≤◌, ℤ, List, [], ◌∷◌, ◌++◌, Option, None, arith, refl, sym, ◌∙◌, ap, add-one, append_assoc}
 use Rattle.std.specs.List.{flat_map, range_with_len}
 use Rattle.std.proofs.lemmas.List.{append-nil}
 use Rattle.mlp_search.specs.declared.choice.Choice.{Choice}
-use Rattle.mlp_search.specs.Least.{better, least_from}
+use Rattle.mlp_search.specs.Least.{better, least_from, with_offsets, with_lows, with_books}
 
 -- choices behind others go on from the best of those
 pub least_from-append : (cost : Choice → Option ℕ) (best : Option Choice) (xs ys : List Choice) → least_from cost best (xs ++ ys) ≡ least_from cost (least_from cost best xs) ys
@@ -18,3 +18,44 @@ range_behind f a (suc n) j e =
 
 pub range_more : (f : ℕ → List Choice) (n : ℕ) → flat_map f (range_with_len 0 (n + 1)) ≡ flat_map f (range_with_len 0 n) ++ f n
 range_more f n = rw add-one (range_behind f 0 n n (omega arith))
+
+-- a scan that goes on by one more number
+pub scan_more : (cost : Choice → Option ℕ) (f : ℕ → List Choice) (start best next : Option Choice) (n : ℕ) → best ≡ least_from cost start (flat_map f (range_with_len 0 n)) → next ≡ least_from cost best (f n)
+    → next ≡ least_from cost start (flat_map f (range_with_len 0 (n + 1)))
+scan_more cost f start best next n e is =
+    is
+    ∙ ap (λ (b : Option Choice). least_from cost b (f n)) e
+    ∙ sym (least_from-append cost start (flat_map f (range_with_len 0 n)) (f n))
+    ∙ ap (least_from cost start) (sym (range_more f n))
+
+-- .. and has come to its end
+pub scan_done : (cost : Choice → Option ℕ) (f : ℕ → List Choice) (start best : Option Choice) (n m : ℕ) → n ≡ m → best ≡ least_from cost start (flat_map f (range_with_len 0 n)) → best ≡ least_from cost start (flat_map f (range_with_len 0 m))
+scan_done cost f start best n m same e = e ∙ ap (λ (k : ℕ). least_from cost start (flat_map f (range_with_len 0 k))) same
+
+-- ---- what holds of each choice of a list
+
+abbrev pub Along : (Choice → Type 0) → List Choice → Type 0
+Along P [] = Unit {0}
+Along P (c ∷ cs) = P c × Along P cs
+
+along_append : (P : Choice → Type 0) (xs ys : List Choice) → Along P xs → Along P ys → Along P (xs ++ ys)
+along_append P [] ys h k = k
+along_append P (x ∷ xs) ys h k = (h.0, along_append P xs ys h.1 k)
+
+pub along_range : (P : Choice → Type 0) (f : ℕ → List Choice) (a n : ℕ) → ((j : ℕ) → a ≤ j → Along P (f j)) → Along P (flat_map f (range_with_len a n))
+along_range P f a zero h = tt
+along_range P f a (suc n) h = along_append P (f a) (flat_map f (range_with_len (a + 1) n)) (h a (omega arith)) (along_range P f (a + 1) n (λ j le. h j (omega (arith, le))))
+
+-- the choices of a number are its choices
+pub books_along : (P : Choice → Type 0) (n : ℕ) (mid : ℤ) → ((c : Choice) → c.filter ≡ n → P c) → Along P (with_books n mid)
+books_along P n mid h = along_range P (with_lows n mid) 0 4 (λ book le. along_range P (with_offsets n mid book) 0 32 (λ low le. (h _ refl, (h _ refl, tt))))
+
+-- ---- choices that have no cost, or the same
+
+pub none_scanned : (cost : Choice → Option ℕ) (best : Option Choice) (xs : List Choice) → Along (λ c. cost c ≡ None) xs → least_from cost best xs ≡ best
+none_scanned cost best [] h = refl
+none_scanned cost best (x ∷ xs) h = ap (λ (o : Option ℕ). least_from cost (better best x o) xs) h.0 ∙ none_scanned cost best xs h.1
+
+pub same_scanned : (f g : Choice → Option ℕ) (best : Option Choice) (xs : List Choice) → Along (λ c. f c ≡ g c) xs → least_from f best xs ≡ least_from g best xs
+same_scanned f g best [] h = refl
+same_scanned f g best (x ∷ xs) h = ap (λ (o : Option ℕ). least_from f (better best x o) xs) h.0 ∙ same_scanned f g (better best x (g x)) xs h.1

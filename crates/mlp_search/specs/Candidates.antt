@@ -6,7 +6,7 @@ use Rattle.mlp_arith.specs.Words.{floor_by}
 use Rattle.mlp_syntax.specs.declared.params.Filter.{Filter}
 use Rattle.mlp_params.specs.declared.state.ChannelState.{ChannelState}
 use Rattle.mlp_params.specs.Filters.{order_of, absent}
-use Rattle.mlp_predict.specs.Prediction.{Past, residuals_of, with_state}
+use Rattle.mlp_predict.specs.Prediction.{Past, residuals_of, past_of, with_state, latest}
 use Rattle.mlp_predict.specs.Filters.{filters_of}
 use Rattle.mlp_levinson.specs.Computed.{computed}
 use Rattle.mlp_search.specs.declared.pair.Pair.{Pair}
@@ -62,6 +62,10 @@ past_for n pair past = with_state (replicate (if n == 0 then 0 else order_of pai
 -- what the filters of a number leave of the samples
 abbrev pub residuals_for : Past → ℕ → List ℤ → ℕ → Pair → List ℤ
 residuals_for past step samples n pair = residuals_of (filters_of pair.fir pair.iir) (past_for n pair past) step samples
+
+-- .. and the latest outputs and differences behind these
+abbrev pub past_behind : Past → List ℤ → ℕ → Pair → Past
+past_behind past samples n pair = latest 8 4 (past_of (filters_of pair.fir pair.iir) (past_for n pair past) samples)
 
 -- ---- offsets
 

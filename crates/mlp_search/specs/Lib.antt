@@ -1,4 +1,5 @@
 pub mod Candidates
 pub mod Given
 pub mod Cost
+pub mod Trial
 pub mod Least

@@ -1,10 +1,19 @@
-//! What the choice of filters and codes for a block of a channel is, and what holds of it: of the
-//! candidates, in their order, the first that takes the fewest bits.
+//! The choice of filters and codes for a block of a channel: of the candidates, in their order, the first that takes the
+//! fewest bits.
 #![tactic(auto)]
 
 mod choice;
+mod costs;
+mod giving;
 pub mod laws;
 mod pair;
+mod reduction;
+mod search;
+mod trial;
 
 pub use choice::Choice;
+pub use costs::cost;
+pub use giving::given;
 pub use pair::Pair;
+pub use reduction::reduced;
+pub use search::choose;

@@ -1,0 +1,76 @@
+-- The bits that codes take: one number, not below their low bits, and not above 40 each.
+use Rattle.std.proofs.Common.{◌≡◌, ℕ, ◌-◌, ◌*◌, ◌<◌, ◌≤◌, ℤ, Bool, false, List, [], ◌∷◌, length, Option, Some, None, arith, refl, ap, subst}
+use Rattle.std.specs.Prelude.{IfSome, IfNone, if◌then◌else◌}
+use Rattle.std.proofs.lemmas.Bool.{ltb-false, le-ltb}
+use Rattle.mlp_residual.specs.Coding.{TakeBits, Counts}
+use Rattle.mlp_residual.proofs.Counting.{length_is, most_length, same_bits}
+use Rattle.mlp_params.specs.declared.state.ChannelState.{ChannelState}
+use Rattle.mlp_search.specs.declared.choice.Choice.{Choice}
+use Rattle.mlp_search.specs.declared.pair.Pair.{Pair}
+use Rattle.mlp_search.specs.Cost.{bits_for, cost_over}
+use Rattle.mlp_search.specs.Least.{is_better, better}
+use Rattle.mlp_search.proofs.CodeLaws.{bits_counted}
+use Rattle.mlp_search.proofs.CostLaws.{costs_from}
+
+-- ---- one number
+
+one_count : (book b step : ℕ) (offset : ℤ) (rs : List ℤ) (o p : Option ℕ) → Counts book b offset step rs o → Counts book b offset step rs p → o ≡ p
+one_count book b step offset rs None None h k = refl
+one_count book b step offset rs None (Some n) h k = absurd (h n k)
+one_count book b step offset rs (Some m) None h k = absurd (k m h)
+one_count book b step offset rs (Some m) (Some n) h k = ap Some (same_bits book b offset step rs m n h k)
+
+count_from : (book b step : ℕ) (offset : ℤ) (rs : List ℤ) (o : Option ℕ) → IfSome o (TakeBits book b offset step rs) → IfNone o ((n : ℕ) → TakeBits book b offset step rs n → ⊥) → Counts book b offset step rs o
+count_from book b step offset rs None some none = none
+count_from book b step offset rs (Some n) some none = some
+
+-- what a count says is the number by division
+pub counted_is : (book b step : ℕ) (offset : ℤ) (rs : List ℤ) (o : Option ℕ) → IfSome o (TakeBits book b offset step rs) → IfNone o ((n : ℕ) → TakeBits book b offset step rs n → ⊥) → o ≡ bits_for book b offset step rs
+counted_is book b step offset rs o some none = one_count book b step offset rs o (bits_for book b offset step rs) (count_from book b step offset rs o some none) (bits_counted book b offset step rs)
+
+-- ---- bounds
+
+most_taken : (book b step : ℕ) (offset : ℤ) (rs : List ℤ) (n : ℕ) → b < 32 → TakeBits book b offset step rs n → n ≤ 40 * length rs
+unfolding TakeBits
+most_taken book b step offset [] n l h = omega (arith, h)
+most_taken book b step offset (r ∷ rs) n l h =
+    let later = most_taken book b step offset rs h.1 l h.3 in
+    omega (arith, later, h.4, length_is book b h.0, most_length book h.0.symbol h.2.symbol_in, l)
+
+pub most_counted : (book b step : ℕ) (offset : ℤ) (rs : List ℤ) (o : Option ℕ) → b < 32 → length rs ≤ 160 → IfSome o (TakeBits book b offset step rs) → IfSome o (λ n. n ≤ 6400)
+most_counted book b step offset rs None l few h = tt
+most_counted book b step offset rs (Some n) l few h = omega (arith, most_taken book b step offset rs n l h, few)
+
+fewest_taken : (book b step : ℕ) (offset : ℤ) (rs : List ℤ) (n : ℕ) → TakeBits book b offset step rs n → b * length rs ≤ n
+unfolding TakeBits
+fewest_taken book b step offset [] n h = omega (arith, h)
+fewest_taken book b step offset (r ∷ rs) n h =
+    let later = fewest_taken book b step offset rs h.1 h.3 in
+    omega (arith, later, h.4, length_is book b h.0)
+
+fewest_bits : (book b step : ℕ) (offset : ℤ) (rs : List ℤ) (n : ℕ) → bits_for book b offset step rs ≡ Some n → b * length rs ≤ n
+fewest_bits book b step offset rs n e =
+    fewest_taken book b step offset rs n (subst (λ (o : Option ℕ). Counts book b offset step rs o) e (bits_counted book b offset step rs))
+
+-- a cost is no less than the low bits
+fewest_cost : (force : ChannelState) (step : ℕ) (filters : Bool) (pair : Pair) (rs : List ℤ) (c : Choice) (n : ℕ) → cost_over force step filters pair rs c ≡ Some n → (c.low - step) * length rs ≤ n
+fewest_cost force step filters pair rs c n e =
+    let k = costs_from force step filters pair rs c n e in
+    omega (arith, fewest_bits c.book (c.low - step) step c.offset rs k.codes k.taken, k.total)
+
+-- ---- choices that can't be better
+
+never_better : (m n : ℕ) (best : Option Choice) → m ≤ n → is_better m best ≡ false → is_better n best ≡ false
+never_better m n None le e = e
+never_better m n (Some b) le e = le-ltb n b.bits (omega (arith, le, ltb-false m b.bits e))
+
+-- a choice whose low bits alone take as many bits as the best so far
+pub kept : (force : ChannelState) (step : ℕ) (filters : Bool) (pair : Pair) (rs : List ℤ) (c : Choice) (best : Option Choice) → is_better ((c.low - step) * length rs) best ≡ false
+    → better best c (cost_over force step filters pair rs c) ≡ best
+kept force step filters pair rs c best e = pick (cost_over force step filters pair rs c) refl
+  where
+    pick : (o : Option ℕ) → cost_over force step filters pair rs c ≡ o → better best c o ≡ best
+    pick None is = refl
+    pick (Some n) is =
+        let no = never_better ((c.low - step) * length rs) n best (fewest_cost force step filters pair rs c n is) e in
+        ap (λ (t : Bool). if t then Some (record c { bits = n }) else best) no

@@ -1,0 +1,92 @@
+//! What filters leave of a block.
+
+ghost use Rattle.std.specs.Prelude.{◌≡◌, ◌≤◌, ◌<◌, ◌↔◌, length, All, FitsSigned, IsTrue, IsSome, true, Some, replicate, option_map, pos};
+ghost use Rattle.std.specs.Int.{w32};
+ghost use Rattle.mlp_arith.specs.Ranges.{Is26};
+ghost use Rattle.mlp_params.specs.States.{IsChannelState};
+ghost use Rattle.mlp_search.specs.Candidates.{pair_of, past_for, residuals_for, past_behind};
+ghost use Rattle.mlp_predict.specs.Filters.{AreFilters, IsState};
+ghost use Rattle.mlp_search.specs.Cost.{cost_of};
+
+use crate::choice::Choice;
+use crate::pair::{Pair, pair_of};
+use arrayvec::ArrayVec;
+use mlp_params::ChannelState;
+use mlp_predict::Predictor;
+use mlp_syntax::FilterState;
+
+/// A state of so many zeros.
+pub(crate) fn zeros(count: usize) -> FilterState
+    requires { count ≤ 4 }
+    ensures value { result ≡ record { bits = 0; shift = 0; values = record { items = replicate count (pos 0) } } }
+    ensures state { IsState result }
+{
+    let mut values: ArrayVec<i32, 4> = ArrayVec::new();
+    for _ in 0..count {
+        values.push(0);
+    }
+    FilterState {
+        bits: 0,
+        shift: 0,
+        values,
+    }
+}
+
+/// Puts the state that the filters of a number come with into the past.
+fn put_state(history: &mut Predictor<8, 4>, number: u8, pair: &Pair)
+    ensures { history.new ≡ past_for number pair.now history.old }
+{
+    if number > 0 {
+        history.set_state(&zeros(pair.iir.coeffs.as_slice().len()));
+    }
+}
+
+/// Puts what the filters of a number leave of the samples; false where some residual hasn't 32 signed bits.
+pub(crate) fn residuals_for(
+    history: &Predictor<8, 4>,
+    step: u8,
+    number: u8,
+    pair: &Pair,
+    samples: &[i32],
+    residuals: &mut [i32],
+) -> bool
+    requires step { step ≤ 8 }
+    requires filters { AreFilters pair.now.fir pair.now.iir }
+    requires room { length samples.now ≡ length residuals.old }
+    ensures fit { IsTrue result
+        ↔ All (FitsSigned w32) (residuals_for history.now step samples.now number pair.now) }
+    ensures values { IsTrue result →
+        residuals.new ≡ residuals_for history.now step samples.now number pair.now }
+{
+    let mut past = history.copied();
+    put_state(&mut past, number, pair);
+    past.residuals(&pair.fir, &pair.iir, step, samples, residuals)
+}
+
+/// Puts the residuals of a block by a choice that has a cost, and leaves the past behind them.
+pub fn reduced(
+    state: &ChannelState,
+    history: &mut Predictor<8, 4>,
+    step: u8,
+    choice: &Choice,
+    samples: &[i32],
+    residuals: &mut [i32],
+)
+    requires state { IsChannelState state.now }
+    requires step { step ≤ 8 }
+    requires few { length samples.now ≤ 160 }
+    requires samples { All Is26 samples.now }
+    requires room { length samples.now ≡ length residuals.old }
+    requires costs { IsSome (cost_of state.now history.old step true samples.now choice.now) }
+    ensures residuals { let n = choice.now.filter in let past = history.old in
+        option_map (residuals_for past step samples.now n) (pair_of state.now step samples.now n)
+        ≡ Some residuals.new }
+    ensures past { let n = choice.now.filter in let past = history.old in
+        option_map (past_behind past samples.now n) (pair_of state.now step samples.now n)
+        ≡ Some history.new }
+{
+    if let Some(pair) = pair_of(state, step, samples, choice.filter) {
+        put_state(history, choice.filter, &pair);
+        let _fit = history.reduce_block(&pair.fir, &pair.iir, step, samples, residuals);
+    }
+}

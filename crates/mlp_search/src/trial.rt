@@ -1,0 +1,177 @@
+//! The filters of a number on trial: what they write, and the middle of what they leave.
+
+ghost use Rattle.std.specs.Prelude.{◌≡◌, ◌≤◌, ◌<◌, ◌&&◌, ◌+◌, ◌+ℤ◌, length, map, slice_index_or, pos, neg_ℤ, ◌≤ℤ◌};
+ghost use Rattle.std.specs.Int.{int_min, int_max};
+ghost use Rattle.mlp_arith.specs.Words.{floor_by};
+ghost use Rattle.mlp_params.specs.States.{IsChannelState};
+ghost use Rattle.mlp_search.specs.Candidates.{least_of, greatest_of, limited, middle_of};
+ghost use Rattle.mlp_search.specs.Given.{IsPair, fir_stays, iir_stays, fir_given, iir_given};
+ghost use Rattle.mlp_search.specs.Cost.{filter_bits, fir_bits, iir_bits};
+ghost use Rattle.mlp_search.specs.Trial.{IsTrial};
+
+use crate::giving::{fir_stays, iir_stays};
+use crate::pair::Pair;
+use mlp_params::ChannelState;
+use mlp_syntax::Filter;
+
+/// The filters of a number over a block.
+#[derive(Drop)]
+pub struct Trial {
+    pub number: u8,
+    pub pair: Pair,
+    /// Whether they are written nowhere.
+    pub stays: bool,
+    /// The bits of both filters where they are written.
+    pub bits: u16,
+    /// The middle of what they leave, in quantisation steps.
+    pub middle: i16,
+}
+
+/// How many bits a filter without a state takes.
+fn filter_bits<const N: usize>(filter: &Filter<N>) -> u16
+    requires few { N ≤ 8 }
+    ensures value { result ≡ filter_bits filter.now }
+    ensures few { result ≤ 2057 }
+{
+    let order = filter.coeffs.as_slice().len() as u16;
+    if order == 0 {
+        return 4;
+    }
+    17 + order * u16::from(filter.coeff_bits)
+}
+
+/// How many bits a FIR takes, where it is written.
+fn fir_bits(state: &ChannelState, number: u8, pair: &Pair) -> u16
+    ensures value { result ≡ fir_bits (fir_given state.now number pair.now) }
+    ensures few { result ≤ 2057 }
+{
+    if fir_stays(state, number, pair) {
+        return 0;
+    }
+    filter_bits(&pair.fir)
+}
+
+/// How many bits an IIR takes, where it is written.
+fn iir_bits(state: &ChannelState, number: u8, pair: &Pair) -> u16
+    ensures value { result ≡ iir_bits (iir_given state.now number pair.now) }
+    ensures few { result ≤ 2065 }
+{
+    if iir_stays(state, number, pair) {
+        return 0;
+    }
+    if pair.iir.coeffs.is_empty() {
+        return 4;
+    }
+    filter_bits(&pair.iir) + 8
+}
+
+/// The lesser of a value and a residual in quantisation steps.
+fn lesser(least: i32, step: u8, residual: &i32) -> i32
+    requires { step < 32 }
+    ensures { result ≡ int_min least (floor_by step residual.now) }
+{
+    least.min(*residual >> step)
+}
+
+/// The greater of a value and a residual in quantisation steps.
+fn greater(greatest: i32, step: u8, residual: &i32) -> i32
+    requires { step < 32 }
+    ensures { result ≡ int_max greatest (floor_by step residual.now) }
+{
+    greatest.max(*residual >> step)
+}
+
+/// The first residual in quantisation steps.
+fn first_of(step: u8, residuals: &[i32]) -> i32
+    requires step { step < 32 }
+    requires some { 0 < length residuals.now }
+    ensures { result ≡ floor_by step (slice_index_or residuals.now 0 (pos 0)) }
+{
+    residuals[0] >> step
+}
+
+/// The least residual in quantisation steps.
+fn least_of(step: u8, residuals: &[i32]) -> i32
+    requires { step < 32 }
+    ensures { result ≡ least_of (map (floor_by step) residuals.now) }
+{
+    if residuals.is_empty() {
+        return 0;
+    }
+    let mut least = first_of(step, residuals);
+    for residual in residuals {
+        least = lesser(least, step, residual);
+    }
+    least
+}
+
+/// The greatest residual in quantisation steps.
+fn greatest_of(step: u8, residuals: &[i32]) -> i32
+    requires { step < 32 }
+    ensures { result ≡ greatest_of (map (floor_by step) residuals.now) }
+{
+    if residuals.is_empty() {
+        return 0;
+    }
+    let mut greatest = first_of(step, residuals);
+    for residual in residuals {
+        greatest = greater(greatest, step, residual);
+    }
+    greatest
+}
+
+/// Half the sum of two values, rounded down.
+fn half(least: i32, greatest: i32) -> i64
+    ensures { result ≡ floor_by 1 (least +ℤ greatest) }
+{
+    (i64::from(least) + i64::from(greatest)) >> 1
+}
+
+/// A value brought into 15 signed bits.
+fn limited(value: i64) -> i64
+    ensures value { result ≡ limited value }
+    ensures low { neg_ℤ (pos 16384) ≤ℤ result }
+    ensures high { result ≤ℤ pos 16383 }
+{
+    if value < -16384 {
+        return -16384;
+    }
+    if value > 16383 {
+        return 16383;
+    }
+    value
+}
+
+/// Half the sum of the least and the greatest residual in quantisation steps, in 15 signed bits.
+fn middle_of(step: u8, residuals: &[i32]) -> i16
+    requires { step < 32 }
+    ensures { result ≡ middle_of step residuals.now }
+{
+    limited(half(least_of(step, residuals), greatest_of(step, residuals))) as i16
+}
+
+/// The filters of a number, which leave these residuals.
+pub(crate) fn trial_of(
+    state: &ChannelState,
+    step: u8,
+    number: u8,
+    pair: Pair,
+    residuals: &[i32],
+) -> Trial
+    requires pair { IsPair pair }
+    requires step { step ≤ 8 }
+    ensures trial { IsTrial state.now step residuals.now result }
+    ensures number { result.number ≡ number }
+    ensures pair { result.pair ≡ pair }
+{
+    let stays = fir_stays(state, number, &pair) && iir_stays(state, number, &pair);
+    let bits = fir_bits(state, number, &pair) + iir_bits(state, number, &pair);
+    let middle = middle_of(step, residuals);
+    Trial {
+        number,
+        pair,
+        stays,
+        bits,
+        middle,
+    }
+}
