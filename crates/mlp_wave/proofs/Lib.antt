@@ -1,3 +1,4 @@
 pub mod Parts
 pub mod OneFile
 pub mod SavedLaws
+pub mod FileLaw

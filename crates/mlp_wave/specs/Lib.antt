@@ -1,3 +1,4 @@
 pub mod WaveFile
 pub mod Saved
 pub mod Failures
+pub mod Laws
