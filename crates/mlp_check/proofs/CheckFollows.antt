@@ -98,13 +98,13 @@ module _ (k : ℕ) (us : List Unit_of) (u : Unit_of) (text : List Bool) (next : 
   timing_on : timing_by u.outer.major (after k (left_behind k us) u).substreams ≡ output_timing u
   timing_on = timing_is k (left_behind k us) u (spelling_of (whole k) (left_behind k us) u) next.contents (some_substreams k us)
 
--- a checker of the stream's kind and rate
-abbrev IsOf : Option MajorSync → List TimedUnit → LeftChecker → Type 0
-IsOf sync units checker = LeavesTimed (stream_kind sync) (rate_by sync) units checker
+-- what units leave to a checker, in a stream with this first major sync
+abbrev LeavesChecker : Option MajorSync → List TimedUnit → LeftChecker → Type 0
+LeavesChecker sync units checker = LeavesTimed (stream_kind sync) (rate_by sync) units checker
 
-first_begun : (o : Option MajorSync) (n : ℕ) (checker : LeftChecker) → n ≡ 0 → is_some (in_force None o) ≡ true → IsOf (in_force None o) [] (begun n o checker)
+first_begun : (o : Option MajorSync) (n : ℕ) (checker : LeftChecker) → n ≡ 0 → is_some (in_force None o) ≡ true → LeavesChecker (in_force None o) [] (begun n o checker)
 first_begun None n checker e some = absurd cc
-first_begun (Some m) n checker e some = subst (λ (i : ℕ). IsOf (Some m) [] (begun i (Some m) checker)) (sym e) (none_timed (stream_kind (Some m)) (rate_by (Some m)))
+first_begun (Some m) n checker e some = subst (λ (i : ℕ). LeavesChecker (Some m) [] (begun i (Some m) checker)) (sym e) (none_timed (stream_kind (Some m)) (rate_by (Some m)))
 
 later_begun : (n : ℕ) (o : Option MajorSync) (checker : LeftChecker) → 0 < n → begun n o checker ≡ checker
 later_begun n None checker some = refl
@@ -115,13 +115,13 @@ sync_kept None o e = absurd cc
 sync_kept (Some m) o e = refl
 
 begun_on : (k : ℕ) (us : List Unit_of) (u : Unit_of) (s : CheckState) → Checked k us s → is_some (in_force (left_behind k us).sync u.outer.major) ≡ true
-    → IsOf (in_force (left_behind k us).sync u.outer.major) (map timed_unit us) (begun s.held.units u.outer.major s.checker)
+    → LeavesChecker (in_force (left_behind k us).sync u.outer.major) (map timed_unit us) (begun s.held.units u.outer.major s.checker)
 begun_on k [] u s h some = first_begun u.outer.major s.held.units s.checker h.units some
 begun_on k (v ∷ vs) u s h some =
     let has = h.some (λ e. absurd cc) in
     let same = sync_kept (left_behind k (v ∷ vs)).sync u.outer.major has.synced in
-    subst (λ (sync : Option MajorSync). IsOf sync (map timed_unit (v ∷ vs)) (begun s.held.units u.outer.major s.checker)) (sym same)
-    (subst (IsOf (left_behind k (v ∷ vs)).sync (map timed_unit (v ∷ vs))) (sym (later_begun s.held.units u.outer.major s.checker (omega (arith, h.units)))) has.timed)
+    subst (λ (sync : Option MajorSync). LeavesChecker sync (map timed_unit (v ∷ vs)) (begun s.held.units u.outer.major s.checker)) (sym same)
+    (subst (LeavesChecker (left_behind k (v ∷ vs)).sync (map timed_unit (v ∷ vs))) (sym (later_begun s.held.units u.outer.major s.checker (omega (arith, h.units)))) has.timed)
 
 module _ (k : ℕ) (us : List Unit_of) (s : CheckState) (u : Unit_of) (text : List Bool) (next : IsNext (whole k) (left_behind k us) text u) (h : Checked k us s) where
   left_here : after s.held.k s.held.left u ≡ after k (left_behind k us) u
@@ -130,14 +130,14 @@ module _ (k : ℕ) (us : List Unit_of) (s : CheckState) (u : Unit_of) (text : Li
   timing_here : timing_in u.outer.head (after_unit s.held u).timing ≡ timed_unit u
   timing_here = ap (λ (left : Left). timing_in u.outer.head (timing_by u.outer.major left.substreams)) left_here ∙ ap (timing_in u.outer.head) (timing_on k us u text next h.usable)
 
-  timed_on : IsOf (left_behind k (us ++ u ∷ [])).sync (map timed_unit (us ++ u ∷ [])) (after_checked s u).checker
+  timed_on : LeavesChecker (left_behind k (us ++ u ∷ [])).sync (map timed_unit (us ++ u ∷ [])) (after_checked s u).checker
   timed_on =
       let sync = in_force (left_behind k us).sync u.outer.major in
       let before = begun_on k us u s h (unit_synced (left_behind k us).sync text u.outer h.usable (found k us u text next h.usable)) in
       let behind = checked_leaves (stream_kind sync) (rate_by sync) (map timed_unit us) (begun s.held.units u.outer.major s.checker) (timed_unit u) before (small k us u text next h.usable) in
-      subst (λ (o : Option MajorSync). IsOf o (map timed_unit (us ++ u ∷ [])) (after_checked s u).checker) (sym (sync_on k us u text next h.usable))
-      (subst (λ (units : List TimedUnit). IsOf sync units (after_checked s u).checker) (sym (map-append timed_unit us (u ∷ [])))
-      (subst (λ (v : TimedUnit). IsOf sync (map timed_unit us ++ timed_unit u ∷ []) (checked_after (begun s.held.units u.outer.major s.checker) v)) (sym timing_here) behind))
+      subst (λ (o : Option MajorSync). LeavesChecker o (map timed_unit (us ++ u ∷ [])) (after_checked s u).checker) (sym (sync_on k us u text next h.usable))
+      (subst (λ (units : List TimedUnit). LeavesChecker sync units (after_checked s u).checker) (sym (map-append timed_unit us (u ∷ [])))
+      (subst (λ (v : TimedUnit). LeavesChecker sync (map timed_unit us ++ timed_unit u ∷ []) (checked_after (begun s.held.units u.outer.major s.checker) v)) (sym timing_here) behind))
 
   checked_on : Checked k (us ++ u ∷ []) (after_checked s u)
   checked_on = record {

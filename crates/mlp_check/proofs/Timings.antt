@@ -7,7 +7,7 @@ use Rattle.mlp_fifo.specs.Timed.{TimedUnit, unit_at, AreTimed, LeftChecker, Leav
 use Rattle.mlp_fifo.specs.Checked.{empty_checker, checked_after}
 use Rattle.mlp_fifo.proofs.CheckedLaws.{none_timed, checked_leaves}
 
-pub record IsDecided (P : Type 0) : Type 0 where
+pub record Decision (P : Type 0) : Type 0 where
   pub answer : Bool
   pub is : IsTrue answer ↔ P
 
@@ -23,13 +23,13 @@ module _ (kind : Kind) (rate : ℕ) where
       at_end [] = refl
       at_end (u ∷ us) = at_end us
 
-  decided_behind : (more done : List TimedUnit) (left : LeftChecker) → LeavesTimed kind rate done left → IsDecided (AreTimed kind rate (done ++ more))
+  decided_behind : (more done : List TimedUnit) (left : LeftChecker) → LeavesTimed kind rate done left → Decision (AreTimed kind rate (done ++ more))
   decided_behind [] done left h = record { answer = left.timed; is = subst (λ (us : List TimedUnit). IsTrue left.timed ↔ AreTimed kind rate us) (sym (append-nil done)) h.timed_is }
   decided_behind (v ∷ more) done left h = elim (cases_lt v.input 65536) [
-    | inl lt ↦ subst (λ (us : List TimedUnit). IsDecided (AreTimed kind rate us)) (append_assoc done (v ∷ []) more)
+    | inl lt ↦ subst (λ (us : List TimedUnit). Decision (AreTimed kind rate us)) (append_assoc done (v ∷ []) more)
         (decided_behind more (done ++ v ∷ []) (checked_after left v) (checked_leaves kind rate done left v h lt))
     | inr ge ↦ record { answer = false; is = ((λ e. absurd cc), λ t. absurd (too_large done v more ge t)) }
   ]
 
-  pub timed_decided : (us : List TimedUnit) → IsDecided (AreTimed kind rate us)
+  pub timed_decided : (us : List TimedUnit) → Decision (AreTimed kind rate us)
   timed_decided us = decided_behind us [] (empty_checker kind rate) (none_timed kind rate)
