@@ -100,7 +100,6 @@ pub fn give(
 )
     requires fits { ForceFits place.now force.now }
     requires seed { noise.old.seed < 2 ^ 23 }
-    requires none { rows.old.items ≡ [] }
     ensures given { (channels : ℕ → List ℤ)
         → HaveMatrixed force.now channels (length segment.now.codes.items) frames.old
         → IsGiven place.now channels segment.now force.now
@@ -113,6 +112,7 @@ pub fn give(
         None => {
             begin(place.major, 0, noise, check);
             noise.skip(segment.codes.len());
+            rows.clear();
         }
     }
 }

@@ -27,7 +27,7 @@ pub struct Substreams {
     all: [Substream; 3],
     noise: Noise,
     check: u32,
-    segment: Segment,
+    segments: [Segment; 3],
     frames: [[i32; 10]; 160],
 }
 
@@ -59,6 +59,20 @@ fn channels_of(force: &Option<State>) -> u8
     }
 }
 
+/// The kind of segments that a unit has: with a restart, with parameters alone, or with neither. Each kind is read over
+/// the latest one of its own, whose parts are there already.
+fn shape_of(unit: &[u8], outer: &Outer) -> u8
+    ensures { result ≤ 2 }
+{
+    if outer.major.is_some() {
+        return 0;
+    }
+    match unit.get(outer.body as usize) {
+        Some(byte) if *byte >= 128 => 1,
+        _ => 2,
+    }
+}
+
 fn output_timing(force: &Option<State>) -> Option<u16>
     ensures { result ≡ option_map (λ s. s.restart.output_timing) force.now }
 {
@@ -81,7 +95,7 @@ impl Substreams {
             all: [Substream::new(), Substream::new(), Substream::new()],
             noise: Noise { seed: 0 },
             check: 0,
-            segment: Segment::default(),
+            segments: [Segment::default(), Segment::default(), Segment::default()],
             frames: [[0; 10]; 160],
         }
     }
@@ -152,7 +166,6 @@ impl Substreams {
         requires exist { self.old.last < length outer.now.entries.items }
         requires usable { IfSome (in_force (option_copied first) outer.now.major) IsUsable }
         requires kept { IsKept (option_copied first) self.old }
-        requires none { rows.old.items ≡ [] }
         ensures taken { IsTakenOr (option_copied first.entry) (unit_with unit.now outer.now) (bits_of unit.now)
             self.old self.new rows.new.items result }
         ensures kept { OnOk result (IsKept (in_force (option_copied first.entry) outer.now.major) self.new) }
@@ -161,6 +174,8 @@ impl Substreams {
     {
         let place = place_of(first, &outer.major);
         let last = usize::from(self.last);
+        let shape = usize::from(shape_of(unit, outer));
+        let segment = &mut self.segments[shape];
         take_contents(
             &place,
             unit,
@@ -169,7 +184,7 @@ impl Substreams {
             &mut self.ended,
             &mut self.noise,
             &mut self.check,
-            &mut self.segment,
+            segment,
             &mut self.frames,
             rows,
         )

@@ -44,7 +44,6 @@ pub fn take_contents(
     requires states { ForcesAre place.now substreams.old }
     requires covered { IsCovered (coded_at substreams.old (length substreams.old - 1)).force substreams.old }
     requires seed { noise.old.seed < 2 ^ 23 }
-    requires none { rows.old.items ≡ [] }
     ensures taken { let last = length substreams.old - 1 in
         let o = unit_with unit.now outer.now in
         let contents = segments (portion last place.now substreams.old (folded check.old) o) (last + 1) [] in
@@ -57,7 +56,7 @@ pub fn take_contents(
     ensures seed { noise.new.seed < 2 ^ 23 }
     ensures none { OnErr result (rows.new.items ≡ []) }
 {
-    read_each(
+    match read_each(
         place,
         folded(*check),
         unit,
@@ -65,9 +64,16 @@ pub fn take_contents(
         substreams,
         segment,
         frames,
-    )?;
-    let last = &substreams[substreams.len() - 1];
-    *ended = ending_of(segment).terminator;
-    give(place, last.state(), segment, noise, check, frames, rows);
-    Ok(())
+    ) {
+        Ok(()) => {
+            let last = &substreams[substreams.len() - 1];
+            *ended = ending_of(segment).terminator;
+            give(place, last.state(), segment, noise, check, frames, rows);
+            Ok(())
+        }
+        Err(fault) => {
+            rows.clear();
+            Err(fault)
+        }
+    }
 }

@@ -218,7 +218,7 @@ fn pack_frames<const N: usize>(
     Ok(())
 }
 
-/// The same, with a loop of its own for two channels.
+/// The same, with a loop of its own for two channels. Short arrays are cheaper to clear.
 #[inline]
 #[tactic(auto, using(crate::proofs::Pieces::all_fit))]
 fn pack_channels<const N: usize>(
@@ -236,6 +236,9 @@ fn pack_channels<const N: usize>(
 {
     if channels == 2 {
         return pack_frames(frames, 2, bits, &mut [0; 960], out);
+    }
+    if frames.len() <= 80 {
+        return pack_frames(frames, channels, bits, &mut [0; 1920], out);
     }
     pack_frames(frames, channels, bits, &mut [0; 3840], out)
 }

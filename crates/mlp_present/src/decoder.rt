@@ -11,7 +11,7 @@ use mlp_syntax::{Fault, Field, MajorSync, Outer};
 use mlp_walk::Refusal;
 use std::marker::Model;
 
-/// A decoder of one presentation. All that it keeps has a fixed size, some 100 KB.
+/// A decoder of one presentation. All that it keeps has a fixed size, some 230 KB.
 #[derive(Drop)]
 pub struct Decoder {
     units: u64,
@@ -137,8 +137,8 @@ impl Decoder {
         ensures none { OnErr result (out.new.items ≡ []) }
         ensures within { IfOk result (λ size. (4 ≤ size) × (size ≤ 8190) × (size ≤ length next.now)) }
     {
-        out.clear();
         if let Some(refusal) = self.refusal {
+            out.clear();
             return Err(refusal);
         }
         match take_next(
@@ -157,6 +157,7 @@ impl Decoder {
                 Ok(size)
             }
             Err(refusal) => {
+                out.clear();
                 self.refusal = Some(refusal);
                 Err(refusal)
             }

@@ -82,13 +82,11 @@ fn take_inside(
     requires count { HasCount (option_copied first) outer.now }
     requires inside { HoldsSegments unit.now outer.now }
     requires usable { IfSome outer.now.major IsUsable }
-    requires none { out.old.items ≡ [] }
     ensures taken { let sync = option_copied first.entry in let o = unit_with unit.now outer.now in
         MatchResult result
         (λ _. TakesInside number sync o (bits_of unit.now) substreams.old substreams.new out.new.items)
         (BreaksInside number sync substreams.old o (bits_of unit.now)) }
     ensures last { substreams.new.last ≡ substreams.old.last }
-    ensures none { OnErr result (out.new.items ≡ []) }
 {
     let have = presentations(&outer.major);
     if is_missing(number, have, substreams.last()) {
@@ -109,7 +107,6 @@ pub fn take_next(
     out: &mut ArrayVec<[i32; 8], 160>,
 ) -> Result<(usize, Outer), Refusal>
     requires ready { IsReady number (option_copied first) substreams.old }
-    requires none { out.old.items ≡ [] }
     ensures taken { let sync = option_copied first.entry in
         MatchResult result
         (λ x. TakesUnit number sync next.now x.0 (unit_with (take x.0 next.now) x.1)
@@ -117,7 +114,6 @@ pub fn take_next(
         (λ refusal. next_behind number sync substreams.old next.now ≡ Err refusal) }
     ensures outer { IfOk result (λ x. HasOuter substreams.old.ended (option_copied first.entry) next.now x.0 x.1) }
     ensures last { substreams.new.last ≡ substreams.old.last }
-    ensures none { OnErr result (out.new.items ≡ []) }
 {
     let (size, outer) = outer_behind(substreams.ended(), number, first, next)?;
     take_inside(number, first, &next[..size], &outer, substreams, out)?;

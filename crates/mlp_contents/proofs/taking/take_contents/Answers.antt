@@ -10,9 +10,9 @@ use Rattle.mlp_contents.specs.Read.{Running}
 use Rattle.mlp_contents.proofs.TakenLaws.{taken_contents}
 use Rattle.mlp_contents.proofs.taking.take_contents.Goals as goal
 
-pub returns-clause-taken : goal.returns-clause-taken
-returns-clause-taken c =
-    let r = c.in_ok-read_each.ensures.read in
+pub returns-in-Ok-clause-taken : goal.returns-in-Ok-clause-taken
+returns-in-Ok-clause-taken c =
+    let r = c.in-Ok.ensures.read in
     let place = c.args.place.now in
     let old = c.args.substreams.now in
     let new = c.read_each.new.substreams in

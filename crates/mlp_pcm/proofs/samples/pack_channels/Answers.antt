@@ -6,6 +6,11 @@ returns-then-channels-eq2 g c =
     let e = c.pack_frames.ensures in
     rw c.if-channels-eq2.true (packs c.args.bits 2 c.args.frames.now c.pack_frames.new.out.items c.pack_frames.result e.ok e.clear e.first e.none)
 
+pub returns-then-frames-le80 : goal.returns-then-frames-le80
+returns-then-frames-le80 g c =
+    let e = c.pack_frames-then-frames-le80.ensures in
+    packs c.args.bits c.args.channels c.args.frames.now c.pack_frames-then-frames-le80.new.out.items c.pack_frames-then-frames-le80.result e.ok e.clear e.first e.none
+
 pub returns : goal.returns
 returns g c =
     let e = c.pack_frames-2.ensures in
