@@ -11,24 +11,33 @@ use Rattle.mlp_tool.specs.declared.words.Command.{Command}
 use Rattle.mlp_tool.specs.declared.words.Command.TheVariants as command
 use Rattle.mlp_tool.specs.Words.{plain, presentation_in}
 use Rattle.mlp_tool.specs.Lines.{status_of, line_of}
+use Rattle.mlp_answers.specs.Working.{Working}
 use Rattle.mlp_answers.specs.Works.{Works}
+use Rattle.mlp_check.specs.Runs.{Checks}
 use Rattle.mlp_cut.specs.Cutting.{cutting}
+use Rattle.mlp_extract.specs.Extracting.{extracting}
 use Rattle.mlp_sessions.specs.Listing.{listing}
 use Rattle.mlp_sessions.specs.Playing.{playing}
+use Rattle.mlp_wave.specs.Saved.{Saved}
 
 -- the end of the work on an input is one of the run
 abbrev pub end_of : Result Unit Stop → Result Unit Failure
 end_of (Ok _) = Ok tt
 end_of (Err stop) = Err (Stopped stop)
 
+-- the work was done, or stopped
+abbrev pub Did : {L O C : Type 0} → Working L O C → Side → Side → Result Unit Failure → Type 0
+Did working input output end = (stop : Result Unit Stop) × (end ≡ end_of stop) × Works working input output stop
+
 -- what a command makes of an input and an output; where there is none, both are left alone
 abbrev pub Does : Option Command → Side → Side → Result Unit Failure → Type 0
 Does None input output end = (end ≡ Err Usage) × (input.behind ≡ input.before) × (output.behind ≡ output.before)
-Does (Some (command.DecodeRaw presentation bits)) input output end =
-    (stop : Result Unit Stop) × (end ≡ end_of stop) × Works (playing presentation bits) input output stop
-Does (Some command.List) input output end = (stop : Result Unit Stop) × (end ≡ end_of stop) × Works listing input output stop
-Does (Some (command.Cut first count)) input output end =
-    (stop : Result Unit Stop) × (end ≡ end_of stop) × Works (cutting first count) input output stop
+Does (Some (command.DecodeRaw presentation bits)) input output end = Did (playing presentation bits) input output end
+Does (Some (command.DecodeWav presentation bits)) input output end = Saved presentation bits input output end
+Does (Some (command.Extract presentation)) input output end = Did (extracting presentation) input output end
+Does (Some command.List) input output end = Did listing input output end
+Does (Some (command.Check presentation)) input output end = Checks presentation input output end
+Does (Some (command.Cut first count)) input output end = Did (cutting first count) input output end
 
 -- no more bytes were taken than one past the limit
 abbrev pub TakesFew : Side → Type 0

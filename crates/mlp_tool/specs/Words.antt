@@ -1,5 +1,5 @@
 -- The plain forms of the command line: a command, and behind it options with their values, in any order.
-use Rattle.std.specs.Prelude.{◌≡◌, ◌≤◌, ◌⊎◌, ℕ, Bool, true, false, not, ◌&&◌, if◌then◌else◌, List, [], ◌∷◌, Option, Some, None, is_some, codes}
+use Rattle.std.specs.Prelude.{◌≡◌, ◌≤◌, ◌⊎◌, ℕ, Bool, true, false, ◌&&◌, if◌then◌else◌, List, [], ◌∷◌, Option, Some, None, is_none, find, codes}
 use Rattle.std.specs.Str.{bytes_eq}
 use Rattle.std.specs.Option.{option_and_then}
 use Rattle.mlp_tool.specs.Numbers.{number_of}
@@ -13,69 +13,47 @@ use Rattle.mlp_tool.specs.declared.words.Command.TheVariants as command
 abbrev pub verb_of : List ℕ → Option Verb
 verb_of word =
     if bytes_eq word (codes "decode-raw") then Some verb.DecodeRaw
+    else if bytes_eq word (codes "decode-wav") then Some verb.DecodeWav
+    else if bytes_eq word (codes "extract") then Some verb.Extract
     else if bytes_eq word (codes "list") then Some verb.List
+    else if bytes_eq word (codes "check") then Some verb.Check
     else if bytes_eq word (codes "cut") then Some verb.Cut
     else None
 
-abbrev pub option_of : List ℕ → Option Name
-option_of word =
-    if bytes_eq word (codes "--presentation") then Some Presentation
-    else if bytes_eq word (codes "--bits") then Some Bits
-    else if bytes_eq word (codes "--first") then Some First
-    else if bytes_eq word (codes "--count") then Some Count
-    else None
+abbrev pub word_of : Name → List ℕ
+word_of Presentation = codes "--presentation"
+word_of Bits = codes "--bits"
+word_of First = codes "--first"
+word_of Count = codes "--count"
 
--- which command has which options
-abbrev pub has_option : Verb → Name → Bool
-has_option verb.DecodeRaw Presentation = true
-has_option verb.DecodeRaw Bits = true
-has_option verb.DecodeRaw First = false
-has_option verb.DecodeRaw Count = false
-has_option verb.List Presentation = false
-has_option verb.List Bits = false
-has_option verb.List First = false
-has_option verb.List Count = false
-has_option verb.Cut Presentation = false
-has_option verb.Cut Bits = false
-has_option verb.Cut First = true
-has_option verb.Cut Count = true
+abbrev pub options_of : Verb → List Name
+options_of verb.DecodeRaw = Presentation ∷ Bits ∷ []
+options_of verb.DecodeWav = Presentation ∷ Bits ∷ []
+options_of verb.Extract = Presentation ∷ []
+options_of verb.List = []
+options_of verb.Check = Presentation ∷ []
+options_of verb.Cut = First ∷ Count ∷ []
 
--- are these the same option?
-abbrev pub same_option : Name → Option Name → Bool
-same_option name None = false
-same_option Presentation (Some Presentation) = true
-same_option Presentation (Some Bits) = false
-same_option Presentation (Some First) = false
-same_option Presentation (Some Count) = false
-same_option Bits (Some Presentation) = false
-same_option Bits (Some Bits) = true
-same_option Bits (Some First) = false
-same_option Bits (Some Count) = false
-same_option First (Some Presentation) = false
-same_option First (Some Bits) = false
-same_option First (Some First) = true
-same_option First (Some Count) = false
-same_option Count (Some Presentation) = false
-same_option Count (Some Bits) = false
-same_option Count (Some First) = false
-same_option Count (Some Count) = true
+-- the option that a word names, among these
+abbrev pub option_of : List Name → List ℕ → Option Name
+option_of names word = find (λ name. bytes_eq word (word_of name)) names
 
 -- the value behind an option's first name
 abbrev pub value_of : Name → List (List ℕ) → Option (List ℕ)
 value_of name [] = None
 value_of name (word ∷ []) = None
-value_of name (word ∷ value ∷ words) = if same_option name (option_of word) then Some value else value_of name words
+value_of name (word ∷ value ∷ words) = if bytes_eq word (word_of name) then Some value else value_of name words
 
--- is it an option of the command, and none of those behind it?
-abbrev pub is_option : Verb → Option Name → List (List ℕ) → Bool
-is_option verb None words = false
-is_option verb (Some name) words = has_option verb name && not (is_some (value_of name words))
+-- is it an option, and none of those behind it?
+abbrev pub is_new : Option Name → List (List ℕ) → Bool
+is_new None words = false
+is_new (Some name) words = is_none (value_of name words)
 
--- the words are options of a command with their values, each at most once
-abbrev pub are_options : Verb → List (List ℕ) → Bool
-are_options verb [] = true
-are_options verb (word ∷ []) = false
-are_options verb (word ∷ value ∷ words) = is_option verb (option_of word) words && are_options verb words
+-- the words are options among these with their values, each at most once
+abbrev pub are_options : List Name → List (List ℕ) → Bool
+are_options names [] = true
+are_options names (word ∷ []) = false
+are_options names (word ∷ value ∷ words) = is_new (option_of names word) words && are_options names words
 
 -- ---- values
 
@@ -96,31 +74,37 @@ abbrev pub bits_by : Option (List ℕ) → Option ℕ
 bits_by None = Some 24
 bits_by (Some word) = bits_of word
 
-abbrev pub bits_in : List (List ℕ) → Option ℕ
-bits_in words = bits_by (value_of Bits words)
+-- what the options say
+abbrev pub presentation_given : List (List ℕ) → Option ℕ
+presentation_given words = option_and_then presentation_of (value_of Presentation words)
+
+abbrev pub bits_given : List (List ℕ) → Option ℕ
+bits_given words = bits_by (value_of Bits words)
+
+abbrev pub number_given : Name → List (List ℕ) → Option ℕ
+number_given name words = option_and_then number_of (value_of name words)
 
 -- ---- commands
 
-abbrev pub with_bits : ℕ → Option ℕ → Option Command
-with_bits presentation None = None
-with_bits presentation (Some bits) = Some (command.DecodeRaw presentation bits)
+-- a command by one number, or by two
+abbrev pub by_one : (ℕ → Command) → Option ℕ → Option Command
+by_one command None = None
+by_one command (Some a) = Some (command a)
 
-abbrev pub decode_raw : List (List ℕ) → ℕ → Option Command
-decode_raw words presentation = with_bits presentation (bits_in words)
-
-abbrev pub cut : ℕ → ℕ → Option Command
-cut first count = Some (command.Cut first count)
+abbrev pub by_two : (ℕ → ℕ → Command) → Option ℕ → Option ℕ → Option Command
+by_two command None b = None
+by_two command (Some a) b = by_one (command a) b
 
 abbrev pub command_of : List (List ℕ) → Verb → Option Command
-command_of words verb.DecodeRaw =
-    option_and_then (decode_raw words) (option_and_then presentation_of (value_of Presentation words))
+command_of words verb.DecodeRaw = by_two command.DecodeRaw (presentation_given words) (bits_given words)
+command_of words verb.DecodeWav = by_two command.DecodeWav (presentation_given words) (bits_given words)
+command_of words verb.Extract = by_one command.Extract (presentation_given words)
 command_of words verb.List = Some command.List
-command_of words verb.Cut =
-    option_and_then (λ first. option_and_then (cut first) (option_and_then number_of (value_of Count words)))
-    (option_and_then number_of (value_of First words))
+command_of words verb.Check = by_one command.Check (presentation_given words)
+command_of words verb.Cut = by_two command.Cut (number_given First words) (number_given Count words)
 
 abbrev pub with_options : List (List ℕ) → Verb → Option Command
-with_options words verb = if are_options verb words then command_of words verb else None
+with_options words verb = if are_options (options_of verb) words then command_of words verb else None
 
 -- the command of a plain form; all other words have none
 abbrev pub plain : List (List ℕ) → Option Command
@@ -131,12 +115,18 @@ plain (word ∷ words) = option_and_then (with_options words) (verb_of word)
 abbrev pub presentation_in : Option Command → ℕ
 presentation_in None = 0
 presentation_in (Some (command.DecodeRaw presentation bits)) = presentation
+presentation_in (Some (command.DecodeWav presentation bits)) = presentation
+presentation_in (Some (command.Extract presentation)) = presentation
 presentation_in (Some command.List) = 0
+presentation_in (Some (command.Check presentation)) = presentation
 presentation_in (Some (command.Cut first count)) = 0
+
+-- the bits of a sample in what a command writes
+abbrev pub bits_in : Option Command → ℕ
+bits_in (Some (command.DecodeRaw presentation bits)) = bits
+bits_in (Some (command.DecodeWav presentation bits)) = bits
+bits_in command = 24
 
 -- there is a presentation of this number, and samples of so many bits
 abbrev pub IsKnown : Option Command → Type 0
-IsKnown None = Unit {0}
-IsKnown (Some (command.DecodeRaw presentation bits)) = (presentation ≤ 2) × ((bits ≡ 16) ⊎ (bits ≡ 24))
-IsKnown (Some command.List) = Unit {0}
-IsKnown (Some (command.Cut first count)) = Unit {0}
+IsKnown command = (presentation_in command ≤ 2) × ((bits_in command ≡ 16) ⊎ (bits_in command ≡ 24))

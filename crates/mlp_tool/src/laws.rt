@@ -1,14 +1,20 @@
 //! What holds of inputs.
 ghost use Rattle.std.specs.Prelude.{ℕ, List};
 ghost use Rattle.mlp_answers.specs.Answers.{HasOneAnswer};
+ghost use Rattle.mlp_check.specs.Checking.{checking};
 ghost use Rattle.mlp_cut.specs.Cutting.{cutting};
+ghost use Rattle.mlp_extract.specs.Extracting.{extracting};
 ghost use Rattle.mlp_sessions.specs.Listing.{listing};
 ghost use Rattle.mlp_sessions.specs.Playing.{playing};
+ghost use Rattle.mlp_wave.specs.Saved.{HasOneFile};
 
 /// Each input has one end and one output for each command, and for each presentation: so the answer of a run comes exactly
 /// where its relation holds.
 pub fn law_one_answer()
     ensures decode_raw { (k bits : ℕ) (all : List ℕ) → HasOneAnswer (playing k bits) all }
+    ensures decode_wav { (k bits : ℕ) (all : List ℕ) → HasOneFile k bits all }
+    ensures extract { (k : ℕ) (all : List ℕ) → HasOneAnswer (extracting k) all }
     ensures list { (all : List ℕ) → HasOneAnswer listing all }
+    ensures check { (k : ℕ) (all : List ℕ) → HasOneAnswer (checking k) all }
     ensures cut { (f c : ℕ) (all : List ℕ) → HasOneAnswer (cutting f c) all }
 {}

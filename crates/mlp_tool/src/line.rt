@@ -3,8 +3,8 @@ ghost use Rattle.std.specs.Prelude.{◌≡◌, ◌+◌, ◌≤◌, ◌++◌, [],
 ghost use Rattle.mlp_syntax.specs.Field.{name_of};
 ghost use Rattle.mlp_tool.specs.Lines.{refusal_status, stop_status, status_of, wave_name, profile_name, pcm_name, fault_line, no_room_line, missing_line, refusal_line, stop_line, line_of};
 
-use mlp_answers::Failure;
 use arrayvec::ArrayVec;
+use mlp_answers::Failure;
 use mlp_sessions::{put_number, put_text};
 use mlp_stream::{Refusal, Stop};
 use mlp_syntax::{Fault, Field, PcmFault, ProfileFault, WaveField};

@@ -4,20 +4,25 @@ ghost use Rattle.mlp_io.specs.Causes.{IsCause};
 ghost use Rattle.mlp_stream.specs.Sides.{side};
 ghost use Rattle.mlp_stream.specs.Pumped.{is_read_fault, is_write_fault};
 ghost use Rattle.mlp_answers.specs.Works.{Works};
+ghost use Rattle.mlp_check.specs.Runs.{Checks};
 ghost use Rattle.mlp_cut.specs.Cutting.{cutting};
+ghost use Rattle.mlp_extract.specs.Extracting.{extracting};
 ghost use Rattle.mlp_sessions.specs.Listing.{listing};
 ghost use Rattle.mlp_sessions.specs.Playing.{playing};
 ghost use Rattle.mlp_tool.specs.Words.{presentation_in, IsKnown};
 ghost use Rattle.mlp_tool.specs.Lines.{status_of};
-ghost use Rattle.mlp_tool.specs.Run.{Does, TakesFew, Told, Ran};
+ghost use Rattle.mlp_tool.specs.Run.{end_of, Does, TakesFew, Told, Ran};
 
-use mlp_answers::Failure;
 use crate::line::{line_of, status_of};
 use crate::words::{Command, plain};
+use mlp_answers::Failure;
+use mlp_check::Check;
 use mlp_cut::Cutter;
+use mlp_extract::Extractor;
 use mlp_io::{Sink, Source, put_all};
 use mlp_sessions::{Decode, List};
 use mlp_stream::{Stop, pump};
+use mlp_wave::decode_wave;
 use std::alloc::Global;
 
 /// Decodes a presentation from 0 to 2 into samples of 16 or 24 bits.
@@ -37,6 +42,20 @@ fn decode<S: Source, K: Sink>(
     ensures write { IsCause (is_write_fault result) (K.faults output.old) (K.faults output.new) }
 {
     let mut session = Decode::open(presentation, bits);
+    pump(&mut session, 0, input, output)
+}
+
+/// Extracts a presentation from 0 to 2.
+fn extract<S: Source, K: Sink>(presentation: u8, input: &mut S, output: &mut K) -> Result<(), Stop>
+    requires exists { presentation ≤ 2 }
+    ensures works { let read = side S.left input.old input.new in
+        let written = side K.written output.old output.new in
+        Works (extracting presentation) read written result }
+    ensures few { TakesFew (side S.left input.old input.new) }
+    ensures read { IsCause (is_read_fault result) (S.faults input.old) (S.faults input.new) }
+    ensures write { IsCause (is_write_fault result) (K.faults output.old) (K.faults output.new) }
+{
+    let mut session = Extractor::open(presentation);
     pump(&mut session, 0, input, output)
 }
 
@@ -71,8 +90,40 @@ fn cut<S: Source, K: Sink>(
     pump(&mut session, 0, input, output)
 }
 
+/// Checks the stream of a presentation from 0 to 2.
+fn check<S: Source, K: Sink>(
+    alloc: Global,
+    presentation: u8,
+    input: &mut S,
+    output: &mut K,
+) -> Result<(), Failure>
+    requires exists { presentation ≤ 2 }
+    ensures checks { let read = side S.left input.old input.new in
+        let written = side K.written output.old output.new in
+        Checks presentation read written result }
+    ensures few { TakesFew (side S.left input.old input.new) }
+    ensures read { IsCause (status_of result == 5) (S.faults input.old) (S.faults input.new) }
+    ensures write { IsCause (status_of result == 6) (K.faults output.old) (K.faults output.new) }
+{
+    match Check::open(alloc, presentation) {
+        Err(_) => Err(Failure::OutOfMemory),
+        Ok(mut session) => failure_of(pump(&mut session, 0, input, output)),
+    }
+}
+
+/// The end of a run, by that of the work on its input.
+fn failure_of(end: Result<(), Stop>) -> Result<(), Failure>
+    ensures { result ≡ end_of end }
+{
+    match end {
+        Ok(()) => Ok(()),
+        Err(stop) => Err(Failure::Stopped(stop)),
+    }
+}
+
 /// Does what a command says, where there is one.
 fn work<S: Source, K: Sink>(
+    alloc: Global,
     command: &Option<Command>,
     input: &mut S,
     output: &mut K,
@@ -88,19 +139,17 @@ fn work<S: Source, K: Sink>(
     match command {
         None => Err(Failure::Usage),
         Some(Command::DecodeRaw { presentation, bits }) => {
-            match decode(*presentation, *bits, input, output) {
-                Ok(()) => Ok(()),
-                Err(stop) => Err(Failure::Stopped(stop)),
-            }
+            failure_of(decode(*presentation, *bits, input, output))
         }
-        Some(Command::List) => match list(input, output) {
-            Ok(()) => Ok(()),
-            Err(stop) => Err(Failure::Stopped(stop)),
-        },
-        Some(Command::Cut { first, count }) => match cut(*first, *count, input, output) {
-            Ok(()) => Ok(()),
-            Err(stop) => Err(Failure::Stopped(stop)),
-        },
+        Some(Command::DecodeWav { presentation, bits }) => {
+            decode_wave(alloc, *presentation, *bits, input, output)
+        }
+        Some(Command::Extract { presentation }) => {
+            failure_of(extract(*presentation, input, output))
+        }
+        Some(Command::List) => failure_of(list(input, output)),
+        Some(Command::Check { presentation }) => check(alloc, *presentation, input, output),
+        Some(Command::Cut { first, count }) => failure_of(cut(*first, *count, input, output)),
     }
 }
 
@@ -118,12 +167,16 @@ fn presentation_in(command: &Option<Command>) -> u8
     match command {
         None | Some(Command::List) | Some(Command::Cut { .. }) => 0,
         Some(Command::DecodeRaw { presentation, .. }) => *presentation,
+        Some(Command::DecodeWav { presentation, .. }) => *presentation,
+        Some(Command::Extract { presentation }) => *presentation,
+        Some(Command::Check { presentation }) => *presentation,
     }
 }
 
 /// Runs the words over an input and an output, tells the line of the end to `errors`, and answers its status.
 ///
-/// No command takes memory from `alloc` yet. A run takes at most one byte more than 2^40 from the input.
+/// `check` takes memory from `alloc` before it reads, and `decode-wav` for the samples; no other command does. A run takes
+/// at most one byte more than 2^40 from the input.
 ///
 /// # Errors
 ///
@@ -138,7 +191,7 @@ fn presentation_in(command: &Option<Command>) -> u8
 /// | 6 | met a write that failed |
 /// | 7 | found no memory for its work |
 /// | 8 | met a stream that hasn't the presentation |
-/// | 9 | met more than 2^40 bytes |
+/// | 9 | met more than 2^40 bytes, or more samples than a WAVE file can state |
 /// | 10 | met a sample with a low byte that 16 bits don't hold |
 /// | 11 | met a stream that can't be cut there |
 pub fn run<S: Source, K: Sink, E: Sink>(
@@ -156,7 +209,7 @@ pub fn run<S: Source, K: Sink, E: Sink>(
     ensures write { IsCause (result == 6) (K.faults output.old) (K.faults output.new) }
 {
     let command = plain(words);
-    let end = work(&command, input, output);
+    let end = work(alloc, &command, input, output);
     let line = line_of(presentation_in(&command), &end);
     tell(errors, line.as_slice());
     status_of(&end)

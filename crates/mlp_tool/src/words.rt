@@ -1,7 +1,8 @@
 //! The words of the command line.
 ghost use Rattle.std.specs.Prelude.{◌≡◌, ◌≤◌, ◌⊎◌, map, string_bytes, length, IfSome};
 ghost use Rattle.std.specs.Option.{option_map};
-ghost use Rattle.mlp_tool.specs.Words.{verb_of, option_of, has_option, value_of, are_options, presentation_of, bits_of, bits_in, plain, IsKnown};
+ghost use Rattle.mlp_io.specs.Limit.{limit};
+ghost use Rattle.mlp_tool.specs.Words.{verb_of, word_of, options_of, option_of, value_of, are_options, presentation_of, bits_of, presentation_given, bits_given, number_given, command_of, with_options, plain, IsKnown};
 
 use crate::numbers::number_of;
 
@@ -9,7 +10,10 @@ use crate::numbers::number_of;
 #[derive(Clone, Copy, Debug, PartialEq, Eq)]
 pub enum Verb {
     DecodeRaw,
+    DecodeWav,
+    Extract,
     List,
+    Check,
     Cut,
 }
 
@@ -27,8 +31,14 @@ pub enum Name {
 pub enum Command {
     /// Write the samples of a presentation, in 16 or 24 bits each.
     DecodeRaw { presentation: u8, bits: u8 },
+    /// Write them as a WAVE file.
+    DecodeWav { presentation: u8, bits: u8 },
+    /// Write the stream of a presentation.
+    Extract { presentation: u8 },
     /// Write a line for each access unit.
     List,
+    /// Decode a presentation, and write what the stream is.
+    Check { presentation: u8 },
     /// Write `count` access units from the one of number `first` on, byte for byte.
     Cut { first: u64, count: u64 },
 }
@@ -38,36 +48,48 @@ fn verb_of(word: &str) -> Option<Verb>
 {
     match word {
         "decode-raw" => Some(Verb::DecodeRaw),
+        "decode-wav" => Some(Verb::DecodeWav),
+        "extract" => Some(Verb::Extract),
         "list" => Some(Verb::List),
+        "check" => Some(Verb::Check),
         "cut" => Some(Verb::Cut),
         _ => None,
     }
 }
 
-fn option_of(word: &str) -> Option<Name>
-    ensures { result ≡ option_of word.now }
+fn word_of(name: Name) -> &'static str
+    ensures { result.now ≡ word_of name }
 {
-    match word {
-        "--presentation" => Some(Name::Presentation),
-        "--bits" => Some(Name::Bits),
-        "--first" => Some(Name::First),
-        "--count" => Some(Name::Count),
-        _ => None,
+    match name {
+        Name::Presentation => "--presentation",
+        Name::Bits => "--bits",
+        Name::First => "--first",
+        Name::Count => "--count",
     }
 }
 
-/// Whether a command has an option.
-fn has_option(verb: Verb, name: Name) -> bool
-    ensures { result ≡ has_option verb name }
+/// The options of a command.
+fn options_of(verb: Verb) -> &'static [Name]
+    ensures { result.now ≡ options_of verb }
 {
-    match (verb, name) {
-        (Verb::DecodeRaw, Name::Presentation | Name::Bits) => true,
-        (Verb::DecodeRaw, Name::First | Name::Count) => false,
-        (Verb::List, Name::Presentation | Name::Bits) => false,
-        (Verb::List, Name::First | Name::Count) => false,
-        (Verb::Cut, Name::Presentation | Name::Bits) => false,
-        (Verb::Cut, Name::First | Name::Count) => true,
+    match verb {
+        Verb::DecodeRaw | Verb::DecodeWav => &[Name::Presentation, Name::Bits],
+        Verb::Extract | Verb::Check => &[Name::Presentation],
+        Verb::List => &[],
+        Verb::Cut => &[Name::First, Name::Count],
     }
+}
+
+/// The option that a word names, among these.
+fn option_of(names: &[Name], word: &str) -> Option<Name>
+    ensures { result ≡ option_of names.now word.now }
+{
+    for name in names {
+        if word == word_of(*name) {
+            return Some(*name);
+        }
+    }
+    None
 }
 
 /// The value of an option.
@@ -76,7 +98,7 @@ fn value_of(name: Name, words: &[String]) -> Option<&str>
 {
     match words {
         [word, value, rest @ ..] => {
-            if option_of(word.as_str()) == Some(name) {
+            if word.as_str() == word_of(name) {
                 return Some(value.as_str());
             }
             value_of(name, rest)
@@ -85,18 +107,18 @@ fn value_of(name: Name, words: &[String]) -> Option<&str>
     }
 }
 
-/// Whether the words are options of a command with their values, each at most once.
-fn are_options(verb: Verb, words: &[String]) -> bool
-    ensures { result ≡ are_options verb (map string_bytes words.now) }
+/// Whether the words are options among these with their values, each at most once.
+fn are_options(names: &[Name], words: &[String]) -> bool
+    ensures { result ≡ are_options names.now (map string_bytes words.now) }
 {
     match words {
         [] => true,
         [_] => false,
         [word, _, rest @ ..] => {
-            let Some(name) = option_of(word.as_str()) else {
+            let Some(name) = option_of(names, word.as_str()) else {
                 return false;
             };
-            has_option(verb, name) && value_of(name, rest).is_none() && are_options(verb, rest)
+            value_of(name, rest).is_none() && are_options(names, rest)
         }
     }
 }
@@ -126,15 +148,74 @@ fn bits_of(word: &str) -> Option<u8>
     }
 }
 
+/// The presentation that an option names.
+fn presentation_given(words: &[String]) -> Option<u8>
+    ensures form { result ≡ presentation_given (map string_bytes words.now) }
+    ensures small { IfSome result (λ k. k ≤ 2) }
+{
+    presentation_of(value_of(Name::Presentation, words)?)
+}
+
 /// The bits of a sample, 24 where no option names them.
-fn bits_in(words: &[String]) -> Option<u8>
-    ensures form { result ≡ bits_in (map string_bytes words.now) }
+fn bits_given(words: &[String]) -> Option<u8>
+    ensures form { result ≡ bits_given (map string_bytes words.now) }
     ensures known { IfSome result (λ bits. (bits ≡ 16) ⊎ (bits ≡ 24)) }
 {
     match value_of(Name::Bits, words) {
         None => Some(24),
         Some(word) => bits_of(word),
     }
+}
+
+/// The number that an option names.
+fn number_given(name: Name, words: &[String]) -> Option<u64>
+    ensures { result ≡ number_given name (map string_bytes words.now) }
+{
+    number_of(value_of(name, words)?)
+}
+
+/// The command of this name with these options.
+fn command_of(words: &[String], verb: Verb) -> Option<Command>
+    ensures form { result ≡ command_of (map string_bytes words.now) verb }
+    ensures known { IsKnown result }
+{
+    match verb {
+        Verb::DecodeRaw => {
+            let presentation = presentation_given(words)?;
+            let bits = bits_given(words)?;
+            Some(Command::DecodeRaw { presentation, bits })
+        }
+        Verb::DecodeWav => {
+            let presentation = presentation_given(words)?;
+            let bits = bits_given(words)?;
+            Some(Command::DecodeWav { presentation, bits })
+        }
+        Verb::Extract => {
+            let presentation = presentation_given(words)?;
+            Some(Command::Extract { presentation })
+        }
+        Verb::List => Some(Command::List),
+        Verb::Check => {
+            let presentation = presentation_given(words)?;
+            Some(Command::Check { presentation })
+        }
+        Verb::Cut => {
+            let first = number_given(Name::First, words)?;
+            let count = number_given(Name::Count, words)?;
+            Some(Command::Cut { first, count })
+        }
+    }
+}
+
+/// The same, where these are options of it.
+fn with_options(words: &[String], verb: Verb) -> Option<Command>
+    ensures form { result ≡ with_options (map string_bytes words.now) verb }
+    ensures known { IsKnown result }
+{
+    if !are_options(options_of(verb), words) {
+        return None;
+    }
+    command_of(words, verb)
 }
 
 /// The command, where the words are of a plain form.
@@ -146,20 +227,5 @@ pub fn plain(words: &[String]) -> Option<Command>
         return None;
     };
     let verb = verb_of(word.as_str())?;
-    if !are_options(verb, rest) {
-        return None;
-    }
-    match verb {
-        Verb::DecodeRaw => {
-            let presentation = presentation_of(value_of(Name::Presentation, rest)?)?;
-            let bits = bits_in(rest)?;
-            Some(Command::DecodeRaw { presentation, bits })
-        }
-        Verb::List => Some(Command::List),
-        Verb::Cut => {
-            let first = number_of(value_of(Name::First, rest)?)?;
-            let count = number_of(value_of(Name::Count, rest)?)?;
-            Some(Command::Cut { first, count })
-        }
-    }
+    with_options(rest, verb)
 }

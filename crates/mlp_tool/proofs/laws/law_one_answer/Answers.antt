@@ -1,15 +1,29 @@
 use Rattle.mlp_answers.proofs.SomeAnswer.{has_one_answer}
+use Rattle.mlp_check.specs.Checking.{checking}
+use Rattle.mlp_check.proofs.Reports.{checking_is}
 use Rattle.mlp_cut.specs.Cutting.{cutting}
 use Rattle.mlp_cut.proofs.CutterLaws.{cutting_is}
+use Rattle.mlp_extract.specs.Extracting.{extracting}
+use Rattle.mlp_extract.proofs.ExtractFollows.{extracting_is}
 use Rattle.mlp_sessions.proofs.ListFollows.{list_has_one}
 use Rattle.mlp_sessions.proofs.PlayFollows.{decode_has_one}
+use Rattle.mlp_wave.proofs.OneFile.{has_one_file}
 use Rattle.mlp_tool.proofs.laws.law_one_answer.Goals as goal
 
 pub returns-clause-decode_raw : goal.returns-clause-decode_raw
 returns-clause-decode_raw c = decode_has_one
 
+pub returns-clause-decode_wav : goal.returns-clause-decode_wav
+returns-clause-decode_wav c = has_one_file
+
+pub returns-clause-extract : goal.returns-clause-extract
+returns-clause-extract c = λ k all. has_one_answer (extracting k) (extracting_is k) all
+
 pub returns-clause-list : goal.returns-clause-list
 returns-clause-list c = list_has_one
+
+pub returns-clause-check : goal.returns-clause-check
+returns-clause-check c = λ k all. has_one_answer (checking k) (checking_is k) all
 
 pub returns-clause-cut : goal.returns-clause-cut
 returns-clause-cut c = λ f n all. has_one_answer (cutting f n) (cutting_is f n) all
