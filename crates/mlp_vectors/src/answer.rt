@@ -22,25 +22,51 @@ fn is_line(bytes: &[u8], text: &str) -> bool {
     }
 }
 
-fn words_of(alloc: Global, text: &str) -> Result<Vec<String>, AllocError> {
-    let mut words = Vec::new(alloc);
-    for word in text.split(' ') {
-        words.push(String::from_str(alloc, word)?)?;
-    }
-    Ok(words)
+/// What came of a run.
+#[derive(Drop)]
+struct Answer {
+    status: u8,
+    output: GrowingSink,
+    errors: GrowingSink,
 }
 
-/// Whether a run over the stream answers what is expected.
-pub fn is_expected(alloc: Global, expected: &Run, stream: &[u8]) -> Result<bool, AllocError> {
-    let words = words_of(alloc, expected.words)?;
+/// Runs a command, whose words have a space between them.
+fn answer_of(alloc: Global, command: &str, stream: &[u8]) -> Result<Answer, AllocError> {
+    let mut words = Vec::new(alloc);
+    for word in command.split(' ') {
+        words.push(String::from_str(alloc, word)?)?;
+    }
     let mut input = SliceSource::new(stream);
     let mut output = GrowingSink::new(alloc);
     let mut errors = GrowingSink::new(alloc);
     let status = run(alloc, &words, &mut input, &mut output, &mut errors);
+    Ok(Answer {
+        status,
+        output,
+        errors,
+    })
+}
+
+/// Runs a command, or two with a bar between them: the second over what the first has written, where that did its work.
+fn last_answer(alloc: Global, commands: &str, stream: &[u8]) -> Result<Answer, AllocError> {
+    let Some((first, second)) = commands.split_once('|') else {
+        return answer_of(alloc, commands, stream);
+    };
+    let answer = answer_of(alloc, first, stream)?;
+    if answer.status != 0 {
+        return Ok(answer);
+    }
+    answer_of(alloc, second, answer.output.bytes())
+}
+
+/// Whether the commands answer what is expected over the stream.
+pub fn is_expected(alloc: Global, expected: &Run, stream: &[u8]) -> Result<bool, AllocError> {
+    let answer = last_answer(alloc, expected.commands, stream)?;
+    let output = answer.output.bytes();
     Ok(
-        status == expected.status
-            && output.bytes().len() == expected.length
-            && sum_of(output.bytes()) == expected.sum
-            && is_line(errors.bytes(), expected.line),
+        answer.status == expected.status
+            && output.len() == expected.length
+            && sum_of(output) == expected.sum
+            && is_line(answer.errors.bytes(), expected.line),
     )
 }

@@ -10,16 +10,16 @@ use std::fmt;
 pub struct Counts<'a> {
     runs: u64,
     differ: u64,
-    /// The stream and the words of the first run that differs.
+    /// The stream and the commands of the first run that differs.
     first: Option<(&'a str, &'a str)>,
 }
 
 impl<'a> Counts<'a> {
-    fn add(&mut self, stream: &'a str, words: &'a str, is_right: bool) {
+    fn add(&mut self, stream: &'a str, commands: &'a str, is_right: bool) {
         self.runs = self.runs.saturating_add(1);
         if !is_right {
             self.differ = self.differ.saturating_add(1);
-            self.first = self.first.or(Some((stream, words)));
+            self.first = self.first.or(Some((stream, commands)));
         }
     }
 }
@@ -28,7 +28,7 @@ impl fmt::Display for Counts<'_> {
     fn fmt<W: fmt::Write>(&self, f: &mut fmt::Formatter<W>) -> fmt::Result {
         write!(f, "{} runs, {} differ", self.runs, self.differ)?;
         match self.first {
-            Some((stream, words)) => write!(f, ", first {stream} {words}"),
+            Some((stream, commands)) => write!(f, ", first {stream} {commands}"),
             None => Ok(()),
         }
     }
@@ -58,7 +58,7 @@ pub fn count_runs<'a>(
             }
             Some(Expected::Run(run)) => {
                 let is_right = is_expected(alloc, &run, stream)?;
-                counts.add(name, run.words, is_right);
+                counts.add(name, run.commands, is_right);
             }
             None => counts.add(name, line, false),
         }

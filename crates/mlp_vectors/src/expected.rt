@@ -3,7 +3,8 @@
 /// A run and its answer.
 #[derive(Drop)]
 pub struct Run<'a> {
-    pub words: &'a str,
+    /// A command, or two with a bar between them: the second is run over what the first has written.
+    pub commands: &'a str,
     pub status: u8,
     /// The number of bytes of the output.
     pub length: usize,
@@ -22,7 +23,7 @@ pub enum Expected<'a> {
     Run(Run<'a>),
 }
 
-/// Reads a line: its fields have tabs between them, as in `stream`, name, length and in `run`, status, length, sum, words,
+/// Reads a line: its fields have tabs between them, as in `stream`, name, length and in `run`, status, length, sum, commands,
 /// line.
 pub fn parse(line: &str) -> Option<Expected<'_>> {
     let mut fields = line.split('\t');
@@ -35,7 +36,7 @@ pub fn parse(line: &str) -> Option<Expected<'_>> {
             status: fields.next()?.parse().ok()?,
             length: fields.next()?.parse().ok()?,
             sum: fields.next()?.parse().ok()?,
-            words: fields.next()?,
+            commands: fields.next()?,
             line: fields.next()?,
         })),
         _ => None,

@@ -1,8 +1,9 @@
 //! Runs the commands over streams whose answers are known, and counts the runs that answer otherwise.
 //!
-//! An independent program made the streams and the answers. There are three tables: streams that break each rule of the
-//! format, streams that break several rules or are cut, and good but unusual streams. `NAME.streams` has a table's streams
-//! one behind the other, `NAME.txt` its runs, and `rules.txt` the runs that meet each rule.
+//! The answers are those of an independent program. There are five tables: streams that break each rule of the format,
+//! streams that break several rules or are cut, good but unusual streams, words of no plain form, and worked streams.
+//! `NAME.streams` has a table's streams one behind the other, `NAME.txt` its runs, and `rules.txt` the runs that meet each
+//! rule.
 #![tactic(auto)]
 
 mod answer;
@@ -13,7 +14,7 @@ use crate::counts::count_runs;
 use std::{fs, io};
 
 fn main(rt: HostRuntime) -> io::Result<()> {
-    for name in ["hostile", "order", "good"] {
+    for name in ["hostile", "order", "good", "usage", "rows"] {
         let runs = fs::read_to_string(&rt, format!(in rt.alloc(); "{name}.txt")?.as_str())?;
         let streams = fs::read(&rt, format!(in rt.alloc(); "{name}.streams")?.as_str())?;
         let counts = count_runs(rt.alloc(), runs.as_str(), streams.as_slice())?;
