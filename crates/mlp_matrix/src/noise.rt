@@ -76,6 +76,10 @@ impl Noise {
         ensures seed { self.new.seed ≡ seed_at self.old.seed count }
         ensures room { self.new.seed < 2 ^ 23 }
     {
+        // From 0 on all seeds are 0.
+        if self.seed == 0 {
+            return;
+        }
         for _ in 0..count {
             self.seed = next_seed(self.seed);
         }

@@ -6,3 +6,4 @@ pub mod Padding
 pub mod Sequences
 pub mod FrameLists
 pub mod LineLaws
+pub mod AloneLaws

@@ -140,17 +140,24 @@ reverse-zeros (suc n) = reverse-append (pos 0 ∷ []) (replicate n (pos 0)) ∙ 
     one_more zero = refl
     one_more (suc k) = ap (λ (ys : List ℤ). pos 0 ∷ ys) (one_more k)
 
--- what stands before the block, the latest first: the values, and zeros behind them
-values_before : (room : ℕ) (vs line : List ℤ) → 16 ≤ room → length vs ≤ 16 → line ≡ take (16 - length vs) (empty room) ++ reverse vs ++ drop 16 (empty room) → reverse (take 16 line) ≡ vs ++ replicate (16 - length vs) (pos 0)
-values_before room vs line large few e =
+-- what stands before the block: zeros, and the values behind them
+pub front_before : (room : ℕ) (vs line : List ℤ) → 16 ≤ room → length vs ≤ 16 → line ≡ take (16 - length vs) (empty room) ++ reverse vs ++ drop 16 (empty room) → take 16 line ≡ replicate (16 - length vs) (pos 0) ++ reverse vs
+front_before room vs line large few e =
     let k : ℕ = 16 - length vs in
     let front : List ℤ = replicate k (pos 0) ++ reverse vs in
     let here : line ≡ front ++ drop 16 (empty room) = e ∙ ap (λ (ys : List ℤ). ys ++ reverse vs ++ drop 16 (empty room)) (take-replicate k room (pos 0) (omega arith)) in
     let count : length front ≡ 16 = omega (arith, length-append (replicate k (pos 0)) (reverse vs), length-replicate k (pos 0), length-reverse vs) in
-    ap reverse (ap (take 16) here ∙ take_at front (drop 16 (empty room)) 16 count)
-    ∙ reverse-append (replicate k (pos 0)) (reverse vs)
+    ap (take 16) here ∙ take_at front (drop 16 (empty room)) 16 count
+
+pub front_reversed : (k : ℕ) (vs : List ℤ) → reverse (replicate k (pos 0) ++ reverse vs) ≡ vs ++ replicate k (pos 0)
+front_reversed k vs =
+    reverse-append (replicate k (pos 0)) (reverse vs)
     ∙ ap (λ (ys : List ℤ). ys ++ reverse (replicate k (pos 0))) (reverse-reverse vs)
     ∙ ap (λ (ys : List ℤ). vs ++ ys) (reverse-zeros k)
+
+-- the latest first: the values, and zeros behind them
+values_before : (room : ℕ) (vs line : List ℤ) → 16 ≤ room → length vs ≤ 16 → line ≡ take (16 - length vs) (empty room) ++ reverse vs ++ drop 16 (empty room) → reverse (take 16 line) ≡ vs ++ replicate (16 - length vs) (pos 0)
+values_before room vs line large few e = ap reverse (front_before room vs line large few e) ∙ front_reversed (16 - length vs) vs
 
 -- lines behind a block
 pub record BlockDone (f : Filters) (q : ℕ) (first : Past) (block out ds : List ℤ) : Type 0 where

@@ -2,6 +2,7 @@
 //! Source: the MLP substream syntax and decoding process as publicly documented.
 #![tactic(auto)]
 
+mod alone;
 mod filters;
 mod history;
 pub mod laws;

@@ -6,6 +6,7 @@ ghost use Rattle.mlp_arith.specs.Words.{clear};
 ghost use Rattle.mlp_predict.specs.Prediction.{predicted, restored, reduced, past_after, past_of, outputs_of, residuals_of, with_state, latest, AreSmall, zeros};
 ghost use Rattle.mlp_predict.specs.Filters.{filters_of, differences_of, AreFilters, IsState};
 
+use crate::alone::{put_differences, restore_behind};
 use crate::filters::{shift_of, taps, taps_back};
 use crate::history::History;
 use crate::lines::restore_between;
@@ -322,6 +323,43 @@ impl<const F: usize, const I: usize> Predictor<F, I> {
         self.differences.replace_all(&differences[..end]);
     }
 
+    /// A block of outputs without an IIR, by sums of `M` products, in a line of `L` values.
+    fn restore_simply<const M: usize, const L: usize>(
+        &mut self,
+        fir: &Filter<F>,
+        iir: &Filter<I>,
+        step: u8,
+        block: &mut [i32],
+    )
+        requires any_difference { 0 < I }
+        requires fir_room { F ≤ 16 }
+        requires iir_room { I ≤ 16 }
+        requires products { M ≤ 16 }
+        requires few { length fir.now.coeffs.items ≤ M }
+        requires none { length iir.now.coeffs.items ≡ 0 }
+        requires filters { AreFilters fir.now iir.now }
+        requires step { step < 16 }
+        requires line { L ≤ 176 }
+        requires most { 16 + length block.old ≤ L }
+        ensures outputs { block.new ≡ outputs_of (filters_of fir.now iir.now) self.old step block.old }
+        ensures past { self.new ≡ latest F I (past_of (filters_of fir.now iir.now) self.old block.new) }
+    {
+        let fir_taps: [i32; M] = taps_back(fir.coeffs.as_slice(), fir.coeff_shift);
+        let shift = shift_of(fir, iir);
+        let mut outputs = [0; L];
+        restore_behind(
+            &fir_taps,
+            shift,
+            step,
+            self.outputs.as_slice(),
+            &mut outputs,
+            block,
+        );
+        let line = &outputs[..16 + block.len()];
+        put_differences(&fir_taps, shift, line, &mut self.differences);
+        self.outputs.replace_all(line);
+    }
+
     /// As `restore_block`, in lines of `L` values.
     fn restore_in<const L: usize>(
         &mut self,
@@ -345,10 +383,10 @@ impl<const F: usize, const I: usize> Predictor<F, I> {
         let iir_order = iir.coeffs.as_slice().len();
         if iir_order == 0 {
             return match order {
-                0..=2 => self.restore_with::<2, 0, L>(fir, iir, step, block),
-                3..=4 => self.restore_with::<4, 0, L>(fir, iir, step, block),
-                5..=8 => self.restore_with::<8, 0, L>(fir, iir, step, block),
-                _ => self.restore_with::<16, 0, L>(fir, iir, step, block),
+                0..=2 => self.restore_simply::<2, L>(fir, iir, step, block),
+                3..=4 => self.restore_simply::<4, L>(fir, iir, step, block),
+                5..=8 => self.restore_simply::<8, L>(fir, iir, step, block),
+                _ => self.restore_simply::<16, L>(fir, iir, step, block),
             };
         }
         if iir_order > 4 {
