@@ -12,8 +12,9 @@ use Rattle.mlp_matrix.specs.Noise.{noise_values, next_seed, noisy, noisy_each}
 use Rattle.mlp_matrix.specs.Front.{AreWithin}
 use Rattle.mlp_matrix.proofs.Fronts.{take-applied}
 use Rattle.mlp_output.specs.Output.{noise_in, matrixed, sample, samples_of, heard}
-use Rattle.mlp_output.specs.Frames.{with_noise}
+use Rattle.mlp_output.specs.Frames.{with_noise, HearNone}
 use Rattle.mlp_output.proofs.Ready.{IsReady}
+use Rattle.mlp_output.proofs.Unheard.{take-unheard}
 
 -- ---- samples look at as many places as there are shifts
 
@@ -107,7 +108,7 @@ module _ (s : State) (h : IsReady s) where
       ∙ ap (λ (yss : List (List ℤ)). samples_of s.shifts.items (matrixed s seed b (take channels frame)) ∷ yss) (silent_frames (next_seed seed) bypass frames e (omega arith))
 
   -- by the noise kind
-  pub rows_heard : (seed : ℕ) (bypass : List ℕ) (frames : List (List ℤ)) → length bypass ≡ length frames → All (λ frame. length frame ≡ 10) frames →
+  rows_heard : (seed : ℕ) (bypass : List ℕ) (frames : List (List ℤ)) → length bypass ≡ length frames → All (λ frame. length frame ≡ 10) frames →
       map (samples_of s.shifts.items) (applied_each s.rows.items s.steps.items bypass (with_noise s.restart seed frames)) ≡ heard s seed bypass (map (take channels) frames)
   rows_heard seed bypass frames same ten = by_kind (eqb s.restart.kind 0) refl
     where
@@ -126,3 +127,34 @@ module _ (s : State) (h : IsReady s) where
       ap (λ (ys : List ℤ). ys ∷ map (samples_of s.shifts.items) frames) (plain_frame seed b frame none (All-head (λ ys. length ys ≡ 10) frame frames ten))
       ∙ ap (λ (yss : List (List ℤ)). samples_of s.shifts.items (matrixed s seed b (take channels frame)) ∷ yss)
       (plain_heard (next_seed seed) bypass frames none (omega arith) (All-tail (λ ys. length ys ≡ 10) frame frames ten))
+
+  -- where no row hears the noise
+  unheard_frame : (seed bypass : ℕ) (frame : List ℤ) → HearNone channels s.rows.items → length frame ≡ 10 →
+      samples_of s.shifts.items (applied s.rows.items s.steps.items bypass frame) ≡ samples_of s.shifts.items (matrixed s seed bypass (take channels frame))
+  unheard_frame seed bypass frame none ten =
+      let front : List ℤ = take channels frame in
+      let count : length front ≡ channels = length-take-le channels frame (omega (arith, h.most, ten)) in
+      let few : length s.shifts.items ≤ channels = omega (arith, h.shift_count) in
+      sym (samples_of-take s.shifts.items channels (applied s.rows.items s.steps.items bypass frame) few)
+      ∙ ap (samples_of s.shifts.items)
+      (take-unheard channels s.rows.items s.steps.items bypass frame none
+      ∙ ap (applied s.rows.items s.steps.items bypass) (sym (take_at front (noise_in s.restart seed) channels count))
+      ∙ sym (take-unheard channels s.rows.items s.steps.items bypass (front ++ noise_in s.restart seed) none))
+      ∙ samples_of-take s.shifts.items channels (matrixed s seed bypass front) few
+
+  unheard_frames : (seed : ℕ) (bypass : List ℕ) (frames : List (List ℤ)) → HearNone channels s.rows.items → length bypass ≡ length frames → All (λ frame. length frame ≡ 10) frames →
+      map (samples_of s.shifts.items) (applied_each s.rows.items s.steps.items bypass frames) ≡ heard s seed bypass (map (take channels) frames)
+  unheard_frames seed [] [] none same ten = refl
+  unheard_frames seed [] (frame ∷ frames) none same ten = absurd (omega arith)
+  unheard_frames seed (b ∷ bypass) [] none same ten = absurd (omega arith)
+  unheard_frames seed (b ∷ bypass) (frame ∷ frames) none same ten =
+      ap (λ (ys : List ℤ). ys ∷ map (samples_of s.shifts.items) (applied_each s.rows.items s.steps.items bypass frames)) (unheard_frame seed b frame none (All-head (λ ys. length ys ≡ 10) frame frames ten))
+      ∙ ap (λ (yss : List (List ℤ)). samples_of s.shifts.items (matrixed s seed b (take channels frame)) ∷ yss)
+      (unheard_frames (next_seed seed) bypass frames none (omega arith) (All-tail (λ ys. length ys ≡ 10) frame frames ten))
+
+  -- with the noise, or without it where no row hears it
+  pub rows_heard_by : (hears : Bool) (seed : ℕ) (bypass : List ℕ) (frames : List (List ℤ)) → (hears ≡ false → HearNone channels s.rows.items) →
+      length bypass ≡ length frames → All (λ frame. length frame ≡ 10) frames →
+      map (samples_of s.shifts.items) (applied_each s.rows.items s.steps.items bypass (cond hears (with_noise s.restart seed frames) frames)) ≡ heard s seed bypass (map (take channels) frames)
+  rows_heard_by true seed bypass frames none same ten = rows_heard seed bypass frames same ten
+  rows_heard_by false seed bypass frames none same ten = unheard_frames seed bypass frames (none refl) same ten

@@ -5,3 +5,4 @@ pub mod Heard
 pub mod Places
 pub mod Filling
 pub mod Outputs
+pub mod Unheard

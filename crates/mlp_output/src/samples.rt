@@ -65,7 +65,12 @@ fn put_each<const C: usize>(
     ensures rows { rows.new ≡ map (placed assign.now) (map (samples_of shifts.now) frames.now) }
     ensures check { check.new ≡ check_of check.old (map (samples_of shifts.now) frames.now) }
 {
-    put_all(&shifts[..C], &assign[..C], frames, rows, check);
+    // Copies that nothing else writes stay in registers.
+    let mut own_shifts = [0; C];
+    own_shifts.copy_from_slice(&shifts[..C]);
+    let mut own_assign = [0; C];
+    own_assign.copy_from_slice(&assign[..C]);
+    put_all(&own_shifts, &own_assign, frames, rows, check);
 }
 
 /// Puts the samples of each frame at their places, and adds them to the check. The usual numbers of channels have loops
