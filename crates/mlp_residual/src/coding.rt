@@ -12,7 +12,8 @@ use mlp_syntax::Code;
 #[inline]
 fn symbols_of(book: u8) -> u64
     requires { book ≤ 3 }
-    ensures { result ≡ symbols_of book }
+    ensures value { result ≡ symbols_of book }
+    ensures most { result ≤ 18 }
 {
     match book {
         0 => 1,
@@ -41,13 +42,7 @@ pub(crate) fn sign_offset(book: u8, b: u8) -> u64
     ensures value { result ≡ sign_offset book b }
     ensures high { result ≤ 19327352832 }
 {
-    let one = power(b);
-    match book {
-        0 => one / 2,
-        1 => 7 * one + 2 * one,
-        2 => 7 * one + one,
-        _ => 7 * one + one / 2,
-    }
+    symbols_of(book) * power(b) / 2
 }
 
 /// The value of a code, a number of quantisation steps.
