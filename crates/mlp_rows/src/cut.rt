@@ -3,8 +3,6 @@ use crate::runs::{Edge, WHOLE, run_over};
 use crate::streams::SILENT;
 use std::test::Fail;
 
-const USAGE: &str = "usage\n";
-
 /// Two streams one behind the other: units of 58, 10, 58 and 10 bytes, of which the first and the third have a major sync.
 fn twice() -> [u8; 136] {
     let mut both = [0; 136];
@@ -86,29 +84,5 @@ fn refuses_what_breaks_a_rule_of_the_outer_parts(rt: HostRuntime) -> Result<(), 
         none.line.as_slice(),
         b"bad stream: unit 0, substream 0, UnitHeader, bit 0\n".as_slice()
     );
-    Ok(())
-}
-
-#[test]
-fn tells_usage(rt: HostRuntime) -> Result<(), Fail> {
-    let cases = [
-        "cut",
-        "cut --first 0",
-        "cut --first 0 --count",
-        "cut --first 0 --first 0",
-        "cut --first 00 --count 1",
-        "cut --first +1 --count 1",
-        "cut --first 1x --count 1",
-        "cut --first 0 --count 1099511627777",
-        "cut --first 0 --count 18446744073709551616",
-        "cut --first 0 --count 1 --presentation 0",
-        "list --first 0 --count 1",
-    ];
-    for words in cases {
-        let seen = run_over(rt.alloc(), words, &SILENT, &WHOLE)?;
-        assert_eq!(rt; seen.status, 2, "of {words}");
-        assert_eq!(rt; seen.output.len(), 0, "of {words}");
-        assert_eq!(rt; seen.line.as_slice(), USAGE.as_bytes(), "of {words}");
-    }
     Ok(())
 }

@@ -1,6 +1,6 @@
 //! The command `decode-raw` over stereo streams.
 use crate::runs::{Edge, WHOLE, run_over};
-use crate::streams::{ENDED, SILENT, raw_samples, raw_unit, raw_units};
+use crate::streams::{ENDED, RAMPS, SILENT, ramp_samples, raw_samples, raw_unit, raw_units};
 use std::test::Fail;
 
 const WORDS: &str = "decode-raw --presentation 0";
@@ -20,6 +20,18 @@ fn decodes_units_in_any_pieces(rt: HostRuntime) -> Result<(), Fail> {
     samples.resize(480, 0)?;
     assert_eq!(rt; two.status, 0);
     assert_eq!(rt; two.output, samples);
+    Ok(())
+}
+
+#[test]
+fn decodes_predicted_samples_in_any_pieces(rt: HostRuntime) -> Result<(), Fail> {
+    let alloc = rt.alloc();
+    for piece in [1, 2, 7, 8190] {
+        let edge = Edge { piece, ..WHOLE };
+        let seen = run_over(alloc, WORDS, &RAMPS, &edge)?;
+        assert_eq!(rt; seen.status, 0, "by {piece}");
+        assert_eq!(rt; seen.output, ramp_samples(alloc)?, "by {piece}");
+    }
     Ok(())
 }
 
@@ -175,56 +187,6 @@ fn asks_for_presentations_and_bits(rt: HostRuntime) -> Result<(), Fail> {
     )?;
     assert_eq!(rt; upper.status, 0);
     assert_eq!(rt; upper.output.len(), 320);
-    Ok(())
-}
-
-#[test]
-fn refuses_other_words(rt: HostRuntime) -> Result<(), Fail> {
-    let alloc = rt.alloc();
-    let unit = raw_unit(alloc)?;
-    for words in [
-        "decode-raw",
-        "decode-raw --presentation 0 --presentation 0",
-        "decode-raw --presentation=0",
-        "decode-raw --presentation 00",
-        "",
-    ] {
-        let other = run_over(alloc, words, &unit, &WHOLE)?;
-        assert_eq!(rt; other.status, 2);
-        assert_eq!(rt; other.output.len(), 0);
-        assert_eq!(rt; other.line.as_slice(), b"usage\n".as_slice());
-    }
-    Ok(())
-}
-
-#[test]
-fn tells_a_read_that_fails_and_a_write_that_fails(rt: HostRuntime) -> Result<(), Fail> {
-    let alloc = rt.alloc();
-    let unit = raw_unit(alloc)?;
-    let edge = Edge {
-        piece: 100,
-        read_fails: &[1],
-        ..WHOLE
-    };
-    let read = run_over(alloc, WORDS, &unit, &edge)?;
-    assert_eq!(rt; read.status, 5);
-    assert_eq!(rt; read.line.as_slice(), b"read fault\n".as_slice());
-    assert_eq!(rt; read.late, 0);
-    let edge = Edge {
-        write_fails: &[0],
-        ..WHOLE
-    };
-    let write = run_over(alloc, WORDS, &unit, &edge)?;
-    assert_eq!(rt; write.status, 6);
-    assert_eq!(rt; write.output.len(), 0);
-    assert_eq!(rt; write.line.as_slice(), b"write fault\n".as_slice());
-    assert_eq!(rt; write.late, 0);
-    let full = run_over(alloc, WORDS, &unit, &Edge { room: 100, ..WHOLE })?;
-    assert_eq!(rt; full.status, 6);
-    let mut front = raw_samples(alloc)?;
-    front.truncate(100);
-    assert_eq!(rt; full.output, front);
-    assert_eq!(rt; full.late, 0);
     Ok(())
 }
 

@@ -4,7 +4,11 @@
 #[cfg(test)]
 mod cut;
 #[cfg(test)]
+mod damage;
+#[cfg(test)]
 mod decode_raw;
+#[cfg(test)]
+mod faults;
 #[cfg(test)]
 mod list;
 #[cfg(test)]

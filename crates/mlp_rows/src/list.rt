@@ -93,26 +93,3 @@ fn refuses_what_breaks_a_rule_of_the_outer_parts(rt: HostRuntime) -> Result<(), 
     }
     Ok(())
 }
-
-#[test]
-fn tells_usage_and_faults_of_either_side(rt: HostRuntime) -> Result<(), Fail> {
-    let cases: [(&str, &[u64], &[u64], u8, &str); 4] = [
-        ("list --presentation 0", &[], &[], 2, "usage\n"),
-        ("list list", &[], &[], 2, "usage\n"),
-        ("list", &[0], &[], 5, "read fault\n"),
-        ("list", &[], &[0], 6, "write fault\n"),
-    ];
-    for (words, read_fails, write_fails, status, line) in cases {
-        let edge = Edge {
-            read_fails,
-            write_fails,
-            ..WHOLE
-        };
-        let seen = run_over(rt.alloc(), words, &SILENT, &edge)?;
-        assert_eq!(rt; seen.status, status, "of {words}");
-        assert_eq!(rt; seen.output.len(), 0, "of {words}");
-        assert_eq!(rt; seen.line.as_slice(), line.as_bytes(), "of {words}");
-        assert_eq!(rt; seen.late, 0, "of {words}");
-    }
-    Ok(())
-}
