@@ -2,11 +2,17 @@
 #![tactic(auto)]
 
 #[cfg(test)]
+mod check;
+#[cfg(test)]
 mod cut;
 #[cfg(test)]
 mod damage;
 #[cfg(test)]
 mod decode_raw;
+#[cfg(test)]
+mod decode_wav;
+#[cfg(test)]
+mod extract;
 #[cfg(test)]
 mod faults;
 #[cfg(test)]

@@ -1,0 +1,38 @@
+//! The command `check`.
+use crate::runs::{Edge, WHOLE, run_over};
+use crate::streams::{ENDED, RAMPS, SILENT};
+use std::test::Fail;
+
+const WORDS: &str = "check --presentation 0";
+
+const TIMED: &str = "units 2\nframes 80\nchannels 2\nrate 48000\nrestarts 1\ntiming yes\n";
+
+const NOT_TIMED: &str = "units 2\nframes 80\nchannels 2\nrate 48000\nrestarts 1\ntiming no\n";
+
+const ONE_FRAME: &str = "units 1\nframes 1\nchannels 2\nrate 48000\nrestarts 1\ntiming yes\n";
+
+const SEVENTEEN: &str = "units 17\nframes 680\nchannels 2\nrate 48000\nrestarts 2\ntiming yes\n";
+
+#[test]
+fn tells_what_streams_hold(rt: HostRuntime) -> Result<(), Fail> {
+    // the second unit comes one sample period earlier
+    let mut early = SILENT;
+    early[58] = 0xB0;
+    early[61] = 0x27;
+    let cases: [(&[u8], &str); 4] = [
+        (&SILENT, TIMED),
+        (&early, NOT_TIMED),
+        (&ENDED, ONE_FRAME),
+        (&RAMPS, SEVENTEEN),
+    ];
+    for (stream, text) in cases {
+        for piece in [7, 8190] {
+            let edge = Edge { piece, ..WHOLE };
+            let seen = run_over(rt.alloc(), WORDS, stream, &edge)?;
+            assert_eq!(rt; seen.status, 0);
+            assert_eq!(rt; seen.output.as_slice(), text.as_bytes());
+            assert_eq!(rt; seen.line.len(), 0);
+        }
+    }
+    Ok(())
+}
