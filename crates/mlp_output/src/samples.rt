@@ -1,5 +1,5 @@
 //! The samples of frames, at their places.
-ghost use Rattle.std.specs.Prelude.{◌≡◌, ◌<◌, ◌≤◌, length, All, map, bit_xor};
+ghost use Rattle.std.specs.Prelude.{◌≡◌, ◌<◌, ◌≤◌, length, All, map, take, replicate, true, bit_xor};
 ghost use Rattle.mlp_output.specs.Output.{samples_of, placed, check_from, check_of};
 
 use mlp_arith::sample24;
@@ -48,6 +48,19 @@ fn put_all(
     *check = running;
 }
 
+/// The output channels in order.
+const IN_ORDER: [u8; 8] = [0, 1, 2, 3, 4, 5, 6, 7];
+
+/// Whether no sample of `C` channels is shifted, and each stands at the output channel of its own number.
+fn are_plain<const C: usize>(shifts: &[u8], assign: &[u8]) -> bool
+    requires { C ≤ 8 }
+    ensures shifts { result ≡ true → shifts.now ≡ replicate C 0 }
+    ensures assign { result ≡ true → assign.now ≡ take C IN_ORDER }
+{
+    let unshifted = [0; C];
+    shifts == unshifted.as_slice() && assign == &IN_ORDER[..C]
+}
+
 /// .. of `C` channels.
 fn put_each<const C: usize>(
     shifts: &[u8],
@@ -67,6 +80,10 @@ fn put_each<const C: usize>(
 {
     // Copies that nothing else writes stay in registers.
     let mut own_shifts = [0; C];
+    if are_plain::<C>(shifts, assign) {
+        put_all(&own_shifts, &IN_ORDER[..C], frames, rows, check);
+        return;
+    }
     own_shifts.copy_from_slice(&shifts[..C]);
     let mut own_assign = [0; C];
     own_assign.copy_from_slice(&assign[..C]);
