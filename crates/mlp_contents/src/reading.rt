@@ -86,15 +86,15 @@ fn read_next(
     }
 }
 
-/// Reads the segments of these substreams, of which there are one to three, and plays them. Behind it `segment` is
-/// that of the last one.
+/// Reads the segments of these substreams, of which there are one to three, and plays them. Each is read over
+/// the latest segment of its substream.
 pub fn read_each(
     place: &Place,
     check: u8,
     unit: &[u8],
     outer: &Outer,
     substreams: &mut [Substream],
-    segment: &mut Segment,
+    latest: &mut [Segment; 3],
     frames: &mut [[i32; 10]; 160],
 ) -> Result<(), SegmentFault>
     requires size { length unit.now ≤ 8190 }
@@ -106,12 +106,12 @@ pub fn read_each(
     requires place { IsPlace place.now }
     requires states { ForcesAre place.now substreams.old }
     requires covered { IsCovered (coded_at substreams.old (length substreams.old - 1)).force substreams.old }
-    ensures read { let last = length substreams.old - 1 in
+    ensures read { (other : Segment) → let last = length substreams.old - 1 in
         let o = unit_with unit.now outer.now in
         let contents = segments (portion last place.now substreams.old check o) (last + 1) [] in
         MatchResult result
         (λ _. (ss : List Segment) × (contents.read (bits_of unit.now) ≡ Ok ss)
-        × HasRead place.now substreams.old substreams.new ss segment.new frames.new)
+        × HasRead place.now substreams.old substreams.new ss (slice_index_or latest.new last other) frames.new)
         (λ e. contents.read (bits_of unit.now) ≡ Err (unit_fault e)) }
 {
     let last = substreams.len() - 1;
@@ -119,6 +119,7 @@ pub fn read_each(
     let mut first: Option<Ending> = None;
     for at in 0..substreams.len() {
         let substream = &mut substreams[at];
+        let segment = &mut latest[at];
         let is_last = at == last;
         read_next(
             place, check, unit, outer, at as u8, is_last, covered, first, substream, segment,

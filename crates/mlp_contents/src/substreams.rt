@@ -27,7 +27,7 @@ pub struct Substreams {
     all: [Substream; 3],
     noise: Noise,
     check: u32,
-    segments: [Segment; 3],
+    segments: [[Segment; 3]; 3],
     frames: [[i32; 10]; 160],
 }
 
@@ -60,7 +60,7 @@ fn channels_of(force: &Option<State>) -> u8
 }
 
 /// The kind of segments that a unit has: with a restart, with parameters alone, or with neither. Each kind is read over
-/// the latest one of its own, whose parts are there already.
+/// the latest one of its own substream and kind, whose parts are there already.
 fn shape_of(unit: &[u8], outer: &Outer) -> u8
     ensures { result ≤ 2 }
 {
@@ -71,6 +71,11 @@ fn shape_of(unit: &[u8], outer: &Outer) -> u8
         Some(byte) if *byte >= 128 => 1,
         _ => 2,
     }
+}
+
+/// Room for the segments of three substreams.
+fn blank_segments() -> [Segment; 3] {
+    [Segment::default(), Segment::default(), Segment::default()]
 }
 
 fn output_timing(force: &Option<State>) -> Option<u16>
@@ -95,7 +100,7 @@ impl Substreams {
             all: [Substream::new(), Substream::new(), Substream::new()],
             noise: Noise { seed: 0 },
             check: 0,
-            segments: [Segment::default(), Segment::default(), Segment::default()],
+            segments: [blank_segments(), blank_segments(), blank_segments()],
             frames: [[0; 10]; 160],
         }
     }
@@ -175,7 +180,7 @@ impl Substreams {
         let place = place_of(first, &outer.major);
         let last = usize::from(self.last);
         let shape = usize::from(shape_of(unit, outer));
-        let segment = &mut self.segments[shape];
+        let latest = &mut self.segments[shape];
         take_contents(
             &place,
             unit,
@@ -184,7 +189,7 @@ impl Substreams {
             &mut self.ended,
             &mut self.noise,
             &mut self.check,
-            segment,
+            latest,
             &mut self.frames,
             rows,
         )

@@ -30,7 +30,7 @@ pub fn take_contents(
     ended: &mut bool,
     noise: &mut Noise,
     check: &mut u32,
-    segment: &mut Segment,
+    latest: &mut [Segment; 3],
     frames: &mut [[i32; 10]; 160],
     rows: &mut ArrayVec<[i32; 8], 160>,
 ) -> Result<(), SegmentFault>
@@ -62,11 +62,13 @@ pub fn take_contents(
         unit,
         outer,
         substreams,
-        segment,
+        latest,
         frames,
     ) {
         Ok(()) => {
-            let last = &substreams[substreams.len() - 1];
+            let at = substreams.len() - 1;
+            let last = &substreams[at];
+            let segment = &latest[at];
             *ended = ending_of(segment).terminator;
             give(place, last.state(), segment, noise, check, frames, rows);
             Ok(())

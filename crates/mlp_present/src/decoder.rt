@@ -11,7 +11,7 @@ use mlp_syntax::{Fault, Field, MajorSync, Outer};
 use mlp_walk::Refusal;
 use std::marker::Model;
 
-/// A decoder of one presentation. All that it keeps has a fixed size, some 230 KB.
+/// A decoder of one presentation. All that it keeps has a fixed size, some 600 KB.
 #[derive(Drop)]
 pub struct Decoder {
     units: u64,

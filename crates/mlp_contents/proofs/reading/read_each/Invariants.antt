@@ -1,4 +1,4 @@
-use Rattle.std.proofs.Common.{◌≡◌, ◌+◌, ◌-◌, List, [], length}
+use Rattle.std.proofs.Common.{◌≡◌, ◌+◌, ◌-◌, ◌<◌, List, [], length, get_or}
 use Rattle.mlp_syntax.specs.declared.segment.Segment.{Segment}
 use Rattle.mlp_bits.specs.Bits.{bits_of}
 use Rattle.mlp_layout.specs.Contents.{segments}
@@ -16,5 +16,7 @@ invariant-loop-at l =
       before : List Segment;
       count : length before ≡ l.at;
       so_far : SegmentsContinue p (last + 1 - l.at) before (bits_of l.unit) ((segments p (last + 1) []).read (bits_of l.unit));
-      behind : Behind l.place l.fn.substreams before l.covered l.first l.substreams l.segment l.frames;
+      top : Segment;
+      top_there : (other : Segment) → 0 < l.at → get_or l.latest (l.at - 1) other ≡ top;
+      behind : Behind l.place l.fn.substreams before l.covered l.first l.substreams top l.frames;
     }
