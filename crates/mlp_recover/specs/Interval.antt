@@ -1,5 +1,5 @@
 -- A restart interval in damaged bytes: units that are a stream by themselves and end where a stream may.
-use Rattle.std.specs.Prelude.{◌≡◌, ℕ, ◌<◌, ◌≤◌, Bool, true, List, length, drop, All, slice_range, ◌⊎◌, is_some, is_none}
+use Rattle.std.specs.Prelude.{◌≡◌, ℕ, ◌<◌, ◌≤◌, true, List, length, drop, All, slice_range, ◌⊎◌, is_some, is_none}
 use Rattle.mlp_bits.specs.Bits.{bits_of}
 use Rattle.mlp_layout.specs.Streams.{IsNext, Stream, left_after}
 use Rattle.mlp_contents.specs.Units.{Left, Unit_of, start, whole}

@@ -1,12 +1,11 @@
 -- What is told of a piece.
-use Rattle.std.specs.Prelude.{◌≡◌, ℕ, Bool, true, false, List, map, length, Option, Some, None}
+use Rattle.std.specs.Prelude.{◌≡◌, ℕ, ◌<◌, ◌^◌, true, false, List, map, length, Option, Some, None}
 use Rattle.mlp_syntax.specs.declared.major.MajorSync.{MajorSync}
 use Rattle.mlp_major.specs.MajorSync.{rate_in_hertz}
-use Rattle.mlp_contents.specs.Units.{Unit_of}
 use Rattle.mlp_samples.specs.Samples.{samples}
 use Rattle.mlp_present.specs.Decoding.{channels_by}
 use Rattle.mlp_recover.specs.declared.span.Span.{Span}
-use Rattle.mlp_recover.specs.Interval.{left_behind, Interval}
+use Rattle.mlp_recover.specs.Interval.{left_behind}
 use Rattle.mlp_recover.specs.Recovered.{Piece, Lost, Kept, AreRecovered}
 
 -- the sampling rate in hertz
@@ -26,6 +25,10 @@ span_of k (Kept first past us) = record {
   channels = channels_by k (left_behind k us);
   rate = rate_by (left_behind k us).sync;
 }
+
+-- as few as bytes up to the limit have
+abbrev pub HasFewFrames : Span → Type 0
+HasFewFrames span = span.frames < 2 ^ 46
 
 -- these spans are those of the pieces
 pub record AreSpans (k : ℕ) (bytes : List ℕ) (spans : List Span) : Type 0 where

@@ -19,7 +19,7 @@ pub struct Span {
 /// The kept intervals and the lost ranges of some bytes, in order. To a contract it is the list of its spans.
 #[derive(Drop)]
 pub struct Spans {
-    items: Vec<Span>,
+    pub(crate) items: Vec<Span>,
 }
 
 impl Model for Spans {
