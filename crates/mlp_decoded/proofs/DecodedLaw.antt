@@ -84,7 +84,7 @@ module _ (k : ℕ) where
       begins_more (whole k) (whole_is k) (start k) all before middle (u ∷ []) rest b
       (subst (λ (l : Left). Begins (whole k) l middle (u ∷ []) rest) (sym same) (begins_one (whole k) (whole_is k) left middle u next))
 
-  channels_behind : (all : List Bool) (us : List Unit_of) (rest : List Bool) → Begins (whole k) (start k) all us rest → places (channels_by k (left_after (whole k) (start k) us)) ≡ channels k us
+  pub channels_behind : (all : List Bool) (us : List Unit_of) (rest : List Bool) → Begins (whole k) (start k) all us rest → places (channels_by k (left_after (whole k) (start k) us)) ≡ channels k us
   channels_behind all us rest b =
       let left = left_after (whole k) (start k) us in
       ap places (by_force (coded_at left.substreams k).force ∙ ap up_to ((left_is k all rest us b).max_matrix k (omega arith)) ∙ by_restart (first_restart (blocks_in k us)))

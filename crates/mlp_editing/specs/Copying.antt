@@ -1,5 +1,5 @@
 -- The session that copies its input.
-use Rattle.std.specs.Prelude.{ℕ, ◌+◌, min, nat_lt, not, ◌&&◌, if◌then◌else◌, Bool, List, [], length, take, Result, Ok}
+use Rattle.std.specs.Prelude.{ℕ, ◌+◌, min, nat_lt, if◌then◌else◌, Bool, true, false, List, [], length, take, Result, Ok}
 use Rattle.mlp_stream.specs.declared.refusal.Refusal.{Refusal}
 use Rattle.mlp_stream.specs.Moves.{Move, Waits, Takes}
 
@@ -7,11 +7,19 @@ use Rattle.mlp_stream.specs.Moves.{Move, Waits, Takes}
 abbrev pub piece_size : ℕ
 piece_size = 4096
 
--- by the number of pieces so far: a piece is taken once it is there, and at the end what is left
-abbrev pub copy_step : ℕ → Bool → List ℕ → Move ℕ
+-- as many are waited for, and at the end one
+abbrev pub least : Bool → ℕ
+least true = 1
+least false = piece_size
+
+abbrev pub piece_of : List ℕ → ℕ
+piece_of next = min piece_size (length next)
+
+-- by the number of pieces so far
+unfoldable pub copy_step : ℕ → Bool → List ℕ → Move ℕ
 copy_step pieces ended next =
-    if not ended && nat_lt (length next) piece_size then Waits
-    else Takes (min piece_size (length next)) (take piece_size next) (pieces + 1)
+    if nat_lt (length next) (least ended) then Waits
+    else Takes (piece_of next) (take (piece_of next) next) (pieces + 1)
 
 abbrev pub copy_last : ℕ → Result (List ℕ) Refusal
 copy_last pieces = Ok []

@@ -1,3 +1,4 @@
 pub mod Copying
+pub mod CopyLaws
 pub mod Told
 pub mod Mended

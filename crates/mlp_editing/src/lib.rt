@@ -1,2 +1,10 @@
-//! The commands that work on damaged bytes, which they copy before they write.
+//! The command `recover`, which copies its input before it writes.
 #![tactic(auto)]
+
+mod copier;
+mod lines;
+mod mending;
+mod pieces;
+
+pub use copier::Copier;
+pub use mending::recover_input;
