@@ -25,20 +25,25 @@ row_step rows steps bypass i row frame after all h is a e =
 
 -- ---- many frames
 
+-- zeros behind the weights change nothing
+each_zeros : (ws : List ℤ) (n dest step i : ℕ) (bypass : List ℕ) (frames : List (List ℤ)) →
+    weighted_each (ws ++ replicate n (pos 0)) dest step i bypass frames ≡ weighted_each ws dest step i bypass frames
+each_zeros ws n dest step i bypass [] = refl
+each_zeros ws n dest step i [] (frame ∷ frames) = refl
+each_zeros ws n dest step i (bits ∷ bypass) (frame ∷ frames) =
+    ap (λ x. x ∷ weighted_each (ws ++ replicate n (pos 0)) dest step i bypass frames) (weighted-zeros ws n dest step (has_bit bits i) frame)
+    ∙ ap (λ ys. weighted ws dest step (has_bit bits i) frame ∷ ys) (each_zeros ws n dest step i bypass frames)
+
 -- prepared weights make of many frames what the row makes
-pub each_prepared : (row : MatrixRow) (ws : List ℤ) (cs : List (Option ℤ)) (n dest step i : ℕ) (bypass : List ℕ) (frames : List (List ℤ)) →
-    ws ≡ weights_of row.frac cs ++ replicate n (pos 0) → cs ≡ row.coeffs.items → dest ≡ row.dest → weighted_each ws dest step i bypass frames ≡ weighted_each (weights row) row.dest step i bypass frames
-each_prepared row ws cs n dest step i bypass frames a b c =
-    ap (λ zs. weighted_each zs dest step i bypass frames) (a ∙ ap (λ zs. weights_of row.frac zs ++ replicate n (pos 0)) b)
-    ∙ zeros bypass frames
+pub each_prepared : (row : MatrixRow) (ws : List ℤ) (cs : List (Option ℤ)) (n m dest step i : ℕ) (bypass : List ℕ) (frames : List (List ℤ)) →
+    ws ≡ weights_of row.frac cs ++ replicate n (pos 0) → weights row ≡ weights_of row.frac cs ++ replicate m (pos 0) → dest ≡ row.dest →
+    weighted_each ws dest step i bypass frames ≡ weighted_each (weights row) row.dest step i bypass frames
+each_prepared row ws cs n m dest step i bypass frames a b c =
+    ap (λ zs. weighted_each zs dest step i bypass frames) a
+    ∙ each_zeros (weights_of row.frac cs) n dest step i bypass frames
+    ∙ sym (each_zeros (weights_of row.frac cs) m dest step i bypass frames)
+    ∙ sym (ap (λ zs. weighted_each zs dest step i bypass frames) b)
     ∙ ap (λ (d : ℕ). weighted_each (weights row) d step i bypass frames) c
-  where
-    zeros : (bypass : List ℕ) (frames : List (List ℤ)) → weighted_each (weights row ++ replicate n (pos 0)) dest step i bypass frames ≡ weighted_each (weights row) dest step i bypass frames
-    zeros bypass [] = refl
-    zeros [] (frame ∷ frames) = refl
-    zeros (bits ∷ bypass) (frame ∷ frames) =
-        ap (λ x. x ∷ weighted_each (weights row ++ replicate n (pos 0)) dest step i bypass frames) (weighted-zeros (weights row) n dest step (has_bit bits i) frame)
-        ∙ ap (λ ys. weighted (weights row) dest step (has_bit bits i) frame ∷ ys) (zeros bypass frames)
 
 -- one row more
 each_row : (i : ℕ) (row : MatrixRow) (rows : List MatrixRow) (steps bypass : List ℕ) (frames : List (List ℤ)) →

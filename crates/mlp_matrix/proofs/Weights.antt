@@ -1,10 +1,11 @@
 -- Weights, and zeros behind them.
-use Rattle.std.proofs.Common.{◌≡◌, ℕ, zero, suc, ◌+◌, ◌-◌, ◌<◌, ◌≤◌, List, [], ◌∷◌, ◌++◌, length, take, get_or, ℤ, pos, ◌+ℤ◌, arith, refl, sym, ◌∙◌, ap, add-one, replicate, append_assoc, Option, None, Bool}
+use Rattle.std.proofs.Common.{◌≡◌, ℕ, zero, suc, ◌+◌, ◌-◌, ◌<◌, ◌≤◌, List, [], ◌∷◌, ◌++◌, length, take, get_or, ℤ, pos, ◌+ℤ◌, arith, refl, sym, ◌∙◌, ap, add-one, replicate, append_assoc, Option, None, Some, is_some, false, Bool}
 use Rattle.std.proofs.Math.ListN.{set}
 use Rattle.std.proofs.Math.Seq.{set-append_seam}
 use Rattle.std.proofs.lemmas.List.{length-take-le}
 use Rattle.mlp_arith.specs.Words.{floor_by, clear, wrap}
 use Rattle.mlp_predict.proofs.Scaling.{dot-zeros}
+use Rattle.mlp_matrix.specs.Front.{AreUsed}
 use Rattle.mlp_matrix.specs.Matrix.{weight, weights_of, bit_of, weighted}
 
 pub length-weights_of : (frac : ℕ) (cs : List (Option ℤ)) → length (weights_of frac cs) ≡ length cs
@@ -37,3 +38,23 @@ weight_filled frac n cs i h k =
 -- zeros behind the weights change nothing
 pub weighted-zeros : (ws : List ℤ) (n dest step : ℕ) (bit : Bool) (frame : List ℤ) → weighted (ws ++ replicate n (pos 0)) dest step bit frame ≡ weighted ws dest step bit frame
 weighted-zeros ws n dest step bit frame = ap (λ z. set frame dest (wrap (clear step (floor_by 14 z) +ℤ bit_of bit))) (dot-zeros ws frame n)
+
+-- ---- coefficients that are left out
+
+pub all_used : (cs : List (Option ℤ)) → AreUsed (length cs) cs
+all_used [] = λ frac. refl
+all_used (c ∷ cs) = λ frac.
+    let e : suc (length cs) - suc (length cs) ≡ length cs - length cs = omega arith in
+    rw e (ap (λ ys. weight frac c ∷ ys) (all_used cs frac))
+
+none_weighs : (frac : ℕ) (o : Option ℤ) → is_some o ≡ false → weight frac o ≡ pos 0
+none_weighs frac None h = refl
+none_weighs frac (Some x) h = absurd (cc)
+
+-- one fewer, where the last one is left out
+pub fewer_used : (cs : List (Option ℤ)) (k : ℕ) → k < length cs → is_some (get_or cs k None) ≡ false → AreUsed (suc k) cs → AreUsed k cs
+fewer_used cs k l none h = λ frac.
+    h frac
+    ∙ ap (λ ys. ys ++ replicate (length cs - suc k) (pos 0)) (take_suc-weights_of frac cs k l ∙ ap (λ z. weights_of frac (take k cs) ++ z ∷ []) (none_weighs frac (get_or cs k None) none))
+    ∙ append_assoc (weights_of frac (take k cs)) (pos 0 ∷ []) (replicate (length cs - suc k) (pos 0))
+    ∙ ap (λ (n : ℕ). weights_of frac (take k cs) ++ replicate n (pos 0)) (let n : suc (length cs - suc k) ≡ length cs - k = omega arith in n)

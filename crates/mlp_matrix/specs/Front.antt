@@ -1,7 +1,11 @@
 -- Rows that look at the first places of frames alone.
-use Rattle.std.specs.Prelude.{◌≡◌, ℕ, ◌≤◌, List, ℤ, length, map, take, All}
+use Rattle.std.specs.Prelude.{◌≡◌, ℕ, ◌-◌, ◌++◌, ◌≤◌, List, ℤ, pos, Option, length, map, take, replicate, All}
 use Rattle.mlp_syntax.specs.declared.params.MatrixRow.{MatrixRow}
-use Rattle.mlp_matrix.specs.Matrix.{applied, applied_each}
+use Rattle.mlp_matrix.specs.Matrix.{weights_of, applied, applied_each}
+
+-- the coefficients behind the first n weigh nothing
+abbrev pub AreUsed : ℕ → List (Option ℤ) → Type 0
+AreUsed n coeffs = (frac : ℕ) → weights_of frac coeffs ≡ weights_of frac (take n coeffs) ++ replicate (length coeffs - n) (pos 0)
 
 -- no row has a coefficient for a place past the first m
 abbrev pub AreWithin : ℕ → List MatrixRow → Type 0

@@ -2,6 +2,7 @@
 
 ghost use Rattle.std.specs.Prelude.{◌≡◌, ◌<◌, ◌≤◌, ◌==◌, ◌/◌, ◌%◌, ◌^◌, length, All};
 ghost use Rattle.mlp_predict.specs.Prediction.{IsCoefficient};
+ghost use Rattle.mlp_matrix.specs.Front.{AreUsed};
 ghost use Rattle.mlp_matrix.specs.Matrix.{applied, applied_each, weights, weighted_each, has_bit, IsRow, AreRows};
 
 use crate::row::{put_weighted, weights};
@@ -53,23 +54,40 @@ fn put_each<const M: usize>(
     }
 }
 
-/// One row over many frames, by sums of `M` products.
+/// How many coefficients there are up to the last one that isn't left out.
+fn used(coeffs: &[Option<i32>]) -> usize
+    ensures count { result ≤ length coeffs.now }
+    ensures used { AreUsed result coeffs.now }
+{
+    for at in (0..coeffs.len()).rev() {
+        if coeffs[at].is_some() {
+            return at + 1;
+        }
+    }
+    0
+}
+
+/// One row over many frames, by sums of `M` products. The coefficients behind the first `count` are left out.
 fn put_row<const M: usize>(
     row: &MatrixRow,
+    count: usize,
     step: u8,
     index: usize,
     frames: &mut [[i32; 10]],
     bypass: &[u8],
 )
     requires few { M ≤ 10 }
-    requires room { length row.now.coeffs.items ≤ M }
+    requires room { count ≤ M }
+    requires count { count ≤ length row.now.coeffs.items }
+    requires used { AreUsed count row.now.coeffs.items }
     requires row { IsRow 8 row.now }
     requires step { step < 16 }
     requires index { index < 8 }
     requires bits { length bypass.now ≡ length frames.old }
     ensures { frames.new ≡ weighted_each (weights row.now) row.now.dest step index bypass.now frames.old }
 {
-    let weights: [i32; M] = weights(row.coeffs.as_slice(), row.frac);
+    let coeffs = &row.coeffs.as_slice()[..count];
+    let weights: [i32; M] = weights(coeffs, row.frac);
     put_each(&weights, usize::from(row.dest), step, index, frames, bypass);
 }
 
@@ -81,12 +99,13 @@ fn put_row_each(row: &MatrixRow, step: u8, index: usize, frames: &mut [[i32; 10]
     requires bits { length bypass.now ≡ length frames.old }
     ensures { frames.new ≡ weighted_each (weights row.now) row.now.dest step index bypass.now frames.old }
 {
-    match row.coeffs.as_slice().len() {
-        0..=2 => put_row::<2>(row, step, index, frames, bypass),
-        3..=4 => put_row::<4>(row, step, index, frames, bypass),
-        5..=6 => put_row::<6>(row, step, index, frames, bypass),
-        7..=8 => put_row::<8>(row, step, index, frames, bypass),
-        _ => put_row::<10>(row, step, index, frames, bypass),
+    let count = used(row.coeffs.as_slice());
+    match count {
+        0..=2 => put_row::<2>(row, count, step, index, frames, bypass),
+        3..=4 => put_row::<4>(row, count, step, index, frames, bypass),
+        5..=6 => put_row::<6>(row, count, step, index, frames, bypass),
+        7..=8 => put_row::<8>(row, count, step, index, frames, bypass),
+        _ => put_row::<10>(row, count, step, index, frames, bypass),
     }
 }
 
