@@ -1,16 +1,13 @@
 -- The bits that codes take: one number, not below their low bits, and not above 40 each.
-use Rattle.std.proofs.Common.{◌≡◌, ℕ, ◌-◌, ◌*◌, ◌<◌, ◌≤◌, ℤ, Bool, false, List, [], ◌∷◌, length, Option, Some, None, arith, refl, ap, subst}
-use Rattle.std.specs.Prelude.{IfSome, IfNone, if◌then◌else◌}
+use Rattle.std.proofs.Common.{◌≡◌, ℕ, ◌*◌, ◌<◌, ◌≤◌, ℤ, false, List, [], ◌∷◌, length, Option, Some, None, arith, refl, ap, subst}
+use Rattle.std.specs.Prelude.{IfSome, IfNone}
 use Rattle.std.proofs.lemmas.Bool.{ltb-false, le-ltb}
 use Rattle.mlp_residual.specs.Coding.{TakeBits, Counts}
 use Rattle.mlp_residual.proofs.Counting.{length_is, most_length, same_bits}
-use Rattle.mlp_params.specs.declared.state.ChannelState.{ChannelState}
 use Rattle.mlp_search.specs.declared.choice.Choice.{Choice}
-use Rattle.mlp_search.specs.declared.pair.Pair.{Pair}
-use Rattle.mlp_search.specs.Cost.{bits_for, cost_over}
-use Rattle.mlp_search.specs.Least.{is_better, better}
+use Rattle.mlp_search.specs.Cost.{bits_for}
+use Rattle.mlp_search.specs.Least.{is_better}
 use Rattle.mlp_search.proofs.CodeLaws.{bits_counted}
-use Rattle.mlp_search.proofs.CostLaws.{costs_from}
 
 -- ---- one number
 
@@ -48,29 +45,12 @@ fewest_taken book b step offset (r ∷ rs) n h =
     let later = fewest_taken book b step offset rs h.1 h.3 in
     omega (arith, later, h.4, length_is book b h.0)
 
-fewest_bits : (book b step : ℕ) (offset : ℤ) (rs : List ℤ) (n : ℕ) → bits_for book b offset step rs ≡ Some n → b * length rs ≤ n
+pub fewest_bits : (book b step : ℕ) (offset : ℤ) (rs : List ℤ) (n : ℕ) → bits_for book b offset step rs ≡ Some n → b * length rs ≤ n
 fewest_bits book b step offset rs n e =
     fewest_taken book b step offset rs n (subst (λ (o : Option ℕ). Counts book b offset step rs o) e (bits_counted book b offset step rs))
 
--- a cost is no less than the low bits
-fewest_cost : (force : ChannelState) (step : ℕ) (filters : Bool) (pair : Pair) (rs : List ℤ) (c : Choice) (n : ℕ) → cost_over force step filters pair rs c ≡ Some n → (c.low - step) * length rs ≤ n
-fewest_cost force step filters pair rs c n e =
-    let k = costs_from force step filters pair rs c n e in
-    omega (arith, fewest_bits c.book (c.low - step) step c.offset rs k.codes k.taken, k.total)
-
 -- ---- choices that can't be better
 
-never_better : (m n : ℕ) (best : Option Choice) → m ≤ n → is_better m best ≡ false → is_better n best ≡ false
+pub never_better : (m n : ℕ) (best : Option Choice) → m ≤ n → is_better m best ≡ false → is_better n best ≡ false
 never_better m n None le e = e
 never_better m n (Some b) le e = le-ltb n b.bits (omega (arith, le, ltb-false m b.bits e))
-
--- a choice whose low bits alone take as many bits as the best so far
-pub kept : (force : ChannelState) (step : ℕ) (filters : Bool) (pair : Pair) (rs : List ℤ) (c : Choice) (best : Option Choice) → is_better ((c.low - step) * length rs) best ≡ false
-    → better best c (cost_over force step filters pair rs c) ≡ best
-kept force step filters pair rs c best e = pick (cost_over force step filters pair rs c) refl
-  where
-    pick : (o : Option ℕ) → cost_over force step filters pair rs c ≡ o → better best c o ≡ best
-    pick None is = refl
-    pick (Some n) is =
-        let no = never_better ((c.low - step) * length rs) n best (fewest_cost force step filters pair rs c n is) e in
-        ap (λ (t : Bool). if t then Some (record c { bits = n }) else best) no

@@ -13,3 +13,10 @@ pub mod CodeBits
 pub mod SearchLaws
 pub mod Middles
 pub mod States
+pub mod FoldLaws
+pub mod FoldSums
+pub mod Wholes
+pub mod ComputedPairs
+pub mod BoundLaws
+pub mod FoldSteps
+pub mod KeptLaws

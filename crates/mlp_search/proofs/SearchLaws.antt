@@ -162,7 +162,7 @@ module _ (force : ChannelState) (past : Past) (step : ℕ) (samples : List ℤ) 
       let split : least_from cost None (books 0 ++ rest) ≡ least_from cost (least_from cost None (books 0)) rest = least_from-append cost None (books 0) rest in
       let none : least_from cost (least_from cost None (books 0)) rest ≡ least_from cost None (books 0) =
       none_scanned cost (least_from cost None (books 0)) rest
-      (along_range (λ c. cost c ≡ None) books 1 17 (λ j le. books_along (λ c. cost c ≡ None) j (middle_for force past step samples j) (λ c e. others_none c j le e)))
+      (along_range (λ c. cost c ≡ None) books 1 17 (λ j le lt. books_along (λ c. cost c ≡ None) j (middle_for force past step samples j) (λ c e. others_none c j le e)))
       in
       let same : least_from cost None (books 0) ≡ least_from (cost_of force past step true samples) None (books 0) =
       same_scanned cost (cost_of force past step true samples) None (books 0)

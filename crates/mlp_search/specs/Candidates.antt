@@ -1,5 +1,5 @@
 -- The filters that can be chosen for a block of a channel, and the residuals that each leaves.
-use Rattle.std.specs.Prelude.{ℕ, ◌-◌, ◌==◌, nat_le, List, [], ◌∷◌, map, replicate, slice_get, Option, Some, None, ℤ, pos, neg_ℤ, ◌+ℤ◌, if◌then◌else◌}
+use Rattle.std.specs.Prelude.{◌≡◌, ℕ, ◌+◌, ◌-◌, ◌<◌, ◌==◌, nat_le, List, [], ◌∷◌, map, replicate, slice_get, Option, Some, None, ℤ, pos, neg_ℤ, ◌+ℤ◌, if◌then◌else◌}
 use Rattle.std.specs.Option.{option_map}
 use Rattle.std.specs.Int.{int_min, int_max}
 use Rattle.mlp_arith.specs.Words.{floor_by}
@@ -51,6 +51,10 @@ pair_of force step samples n =
     else if nat_le n 9 then slice_get table (n - 1)
     else if nat_le n 17 then option_map alone (computed step samples (n - 9))
     else None
+
+-- these are the computed filters of orders 1 to 8, as far as there are any
+abbrev pub AreComputed : ℕ → List ℤ → List (Filter 8) → Type 0
+AreComputed step samples firs = (m : ℕ) → m < 8 → slice_get firs m ≡ computed step samples (m + 1)
 
 -- ---- residuals
 

@@ -1,3 +1,4 @@
+pub mod Folded
 pub mod Candidates
 pub mod Given
 pub mod Cost

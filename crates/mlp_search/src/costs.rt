@@ -19,7 +19,7 @@ use mlp_predict::Predictor;
 use mlp_residual::bits_of;
 
 /// The most low bits that a book may have beside it.
-fn most_low(book: u8) -> u8
+pub(crate) fn most_low(book: u8) -> u8
     ensures { result ≡ most_low book }
 {
     if book == 0 { 31 } else { 24 }
@@ -40,7 +40,7 @@ fn is_offset(offset: i16, middle: i16) -> bool
 }
 
 /// How many bits the flag and the parameters of the channel take.
-fn parameter_sum(state: &ChannelState, trial: &Trial, choice: &Choice) -> u64
+pub(crate) fn parameter_sum(state: &ChannelState, trial: &Trial, choice: &Choice) -> u64
     requires writes { Writes state.now trial.now }
     requires number { choice.now.filter ≡ trial.now.number }
     ensures value { result ≡ parameter_sum state.now trial.now.pair choice.now }

@@ -4,12 +4,15 @@
 
 mod choice;
 mod costs;
+mod folds;
 mod giving;
 pub mod laws;
 mod pair;
 mod reduction;
 mod search;
+mod sides;
 mod trial;
+mod weighing;
 
 pub use choice::Choice;
 pub use costs::cost;

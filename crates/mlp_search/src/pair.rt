@@ -1,12 +1,12 @@
 //! The filters of a channel, by number.
 
-ghost use Rattle.std.specs.Prelude.{◌≡◌, ◌≤◌, ◌-◌, length, All, slice_get, Some, None, IfSome};
+ghost use Rattle.std.specs.Prelude.{◌≡◌, ◌≤◌, ◌-◌, length, All, slice_get, Some, None, IfSome, ℕ, ℤ, List};
 ghost use Rattle.mlp_arith.specs.Ranges.{Is26};
 ghost use Rattle.mlp_params.specs.Filters.{absent};
 ghost use Rattle.mlp_params.specs.States.{IsChannelState};
 ghost use Rattle.mlp_predict.specs.Filters.{AreFilters};
 ghost use Rattle.mlp_search.specs.Given.{IsPair};
-ghost use Rattle.mlp_search.specs.Candidates.{filter_with, alone, beside_half, table, in_force, pair_of};
+ghost use Rattle.mlp_search.specs.Candidates.{AreComputed, filter_with, alone, beside_half, table, in_force, pair_of};
 
 use arrayvec::ArrayVec;
 use mlp_levinson::levinson;
@@ -108,6 +108,29 @@ fn in_force(state: &ChannelState) -> Pair
         fir: copied_filter(&state.fir),
         iir: copied_filter(&state.iir),
     }
+}
+
+/// The filters of a number: those in force, one of the table, or a FIR of those computed from the samples.
+pub(crate) fn pair_from(state: &ChannelState, computed: &[Filter<8>], number: u8) -> Option<Pair>
+    requires state { IsChannelState state.now }
+    requires stateless { All (λ fir. fir.state ≡ None) computed.now }
+    ensures { (step : ℕ) (samples : List ℤ) → AreComputed step samples computed.now →
+        result ≡ pair_of state.now step samples number }
+{
+    if number == 0 {
+        return Some(in_force(state));
+    }
+    if number <= 9 {
+        return Some(in_table(number));
+    }
+    if number > 17 {
+        return None;
+    }
+    let place = number as usize - 10;
+    if place >= computed.len() {
+        return None;
+    }
+    Some(alone(copied_filter(&computed[place])))
 }
 
 /// The filters of a number: those in force, one of the table, or a computed FIR.

@@ -1,6 +1,8 @@
 //! What filters leave of a block.
 
-ghost use Rattle.std.specs.Prelude.{◌≡◌, ◌≤◌, ◌<◌, ◌↔◌, length, All, FitsSigned, IsTrue, IsSome, true, Some, replicate, option_map, pos};
+ghost use Rattle.std.specs.Prelude.{◌≡◌, ◌≤◌, ◌<◌, ◌↔◌, length, All, FitsSigned, IsTrue, IsSome, true, Some, replicate, option_map, map, pos};
+ghost use Rattle.mlp_arith.specs.Words.{clear};
+ghost use Rattle.mlp_search.specs.Folded.{stepped};
 ghost use Rattle.std.specs.Int.{w32};
 ghost use Rattle.mlp_arith.specs.Ranges.{Is26};
 ghost use Rattle.mlp_params.specs.States.{IsChannelState};
@@ -61,6 +63,43 @@ pub(crate) fn residuals_for(
     let mut past = history.copied();
     put_state(&mut past, number, pair);
     past.residuals(&pair.fir, &pair.iir, step, samples, residuals)
+}
+
+/// Puts residuals that are whole steps of 2^step in steps.
+fn count_steps(step: u8, residuals: &mut [i32])
+    requires step { step ≤ 8 }
+    requires whole { All (λ r. clear step r ≡ r) residuals.old }
+    ensures { map (stepped step) residuals.new ≡ residuals.old }
+{
+    for residual in residuals.iter_mut() {
+        *residual >>= step;
+    }
+}
+
+/// Puts what the filters of a number leave of samples without low `step` bits, in steps of 2^step; false where some
+/// residual hasn't 32 signed bits.
+pub(crate) fn values_for(
+    history: &Predictor<8, 4>,
+    step: u8,
+    number: u8,
+    pair: &Pair,
+    samples: &[i32],
+    values: &mut [i32],
+) -> bool
+    requires step { step ≤ 8 }
+    requires filters { AreFilters pair.now.fir pair.now.iir }
+    requires whole { All (λ x. clear step x ≡ x) samples.now }
+    requires room { length samples.now ≡ length values.old }
+    ensures fit { IsTrue result
+        ↔ All (FitsSigned w32) (residuals_for history.now step samples.now number pair.now) }
+    ensures values { IsTrue result →
+        map (stepped step) values.new ≡ residuals_for history.now step samples.now number pair.now }
+{
+    if !residuals_for(history, step, number, pair, samples, values) {
+        return false;
+    }
+    count_steps(step, values);
+    true
 }
 
 /// Puts the residuals of a block by a choice that has a cost, and leaves the past behind them.

@@ -23,7 +23,11 @@ pub struct Trial {
     pub stays: bool,
     /// The bits of both filters where they are written.
     pub bits: u16,
-    /// The middle of what they leave, in quantisation steps.
+    /// The least of what they leave, in quantisation steps.
+    pub least: i32,
+    /// The greatest.
+    pub greatest: i32,
+    /// The middle of the two.
     pub middle: i16,
 }
 
@@ -142,12 +146,11 @@ fn limited(value: i64) -> i64
     value
 }
 
-/// Half the sum of the least and the greatest residual in quantisation steps, in 15 signed bits.
-fn middle_of(step: u8, residuals: &[i32]) -> i16
-    requires { step < 32 }
-    ensures { result ≡ middle_of step residuals.now }
+/// Half the sum of the least and the greatest value, in 15 signed bits.
+fn middle_of(least: i32, greatest: i32) -> i16
+    ensures { result ≡ limited (floor_by 1 (least +ℤ greatest)) }
 {
-    limited(half(least_of(step, residuals), greatest_of(step, residuals))) as i16
+    limited(half(least, greatest)) as i16
 }
 
 /// The filters of a number, which leave these residuals.
@@ -166,12 +169,16 @@ pub(crate) fn trial_of(
 {
     let stays = fir_stays(state, number, &pair) && iir_stays(state, number, &pair);
     let bits = fir_bits(state, number, &pair) + iir_bits(state, number, &pair);
-    let middle = middle_of(step, residuals);
+    let least = least_of(step, residuals);
+    let greatest = greatest_of(step, residuals);
+    let middle = middle_of(least, greatest);
     Trial {
         number,
         pair,
         stays,
         bits,
+        least,
+        greatest,
         middle,
     }
 }

@@ -1,5 +1,7 @@
-use Rattle.std.proofs.Common.{◌≡◌, ◌+◌, ◌*◌, ◌≤◌, true, false, None, length, arith, sym, subst, ap, ◌∙◌}
-use Rattle.std.specs.Prelude.{unwrap_or}
+use Rattle.std.proofs.Common.{◌≡◌, ◌+◌, ◌*◌, ◌≤◌, true, false, None, List, length, arith, sym, subst, ap, ◌∙◌}
+use Rattle.std.specs.Prelude.{All, slice_get, unwrap_or}
+use Rattle.mlp_syntax.specs.declared.params.Filter.{Filter}
+use Rattle.mlp_search.proofs.ComputedPairs.{computed_stateless}
 use Rattle.mlp_search.specs.declared.choice.Choice.{Choice}
 use Rattle.mlp_search.specs.Cost.{cost_of}
 use Rattle.mlp_search.specs.Least.{chosen, with_books, middle_for, IsLeast}
@@ -8,6 +10,14 @@ use Rattle.mlp_search.proofs.ChosenLaws.{chosen_least, chosen_cheap}
 use Rattle.mlp_search.proofs.SearchLaws.{found_is, cost_widens}
 use Rattle.mlp_search.proofs.search.choose.Goals as goal
 use Rattle.mlp_search.proofs.search.choose.Goals.{then-filters, else-filters}
+
+pub with_filters-best-requires-clause-computed : goal.with_filters-best-requires-clause-computed
+with_filters-best-requires-clause-computed c = λ m lt. ap (λ (firs : List (Filter 8)). slice_get firs m) c.deref.ensures.0 ∙ c.levinson_all.ensures m lt
+
+pub with_filters-best-requires-clause-stateless : goal.with_filters-best-requires-clause-stateless
+with_filters-best-requires-clause-stateless c =
+    subst (λ (firs : List (Filter 8)). All (λ f. f.state ≡ None) firs) (sym c.deref.ensures.0)
+    (computed_stateless c.args.step c.args.samples.now c.levinson_all.new.out.items (omega (arith, ap (λ (firs : List (Filter 8)). length firs) c.deref.ensures.0, c.deref.ensures.1)) c.levinson_all.ensures)
 
 pub loop-number-preserved : goal.loop-number-preserved
 loop-number-preserved c =

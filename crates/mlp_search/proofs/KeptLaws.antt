@@ -1,0 +1,199 @@
+-- Choices of the filters on trial that leave the best as it is.
+use Rattle.std.proofs.Common.{◌≡◌, ℕ, zero, suc, ◌+◌, ◌-◌, ◌*◌, ◌/◌, ◌^◌, ◌<◌, ◌≤◌, ℤ, pos, Bool, true, false, List, [], ◌∷◌, length, map, Option, Some, None, arith, refl, sym, ◌∙◌, ap, subst, inl, inr}
+use Rattle.std.specs.Prelude.{if◌then◌else◌}
+use Rattle.std.specs.List.{flat_map, range_with_len}
+use Rattle.std.proofs.lemmas.Bool.{cases_lt, ltb-true, ltb-false, le-ltb}
+use Rattle.std.proofs.lemmas.List.{length-map}
+use Rattle.std.proofs.Math.Nat.{mul-le-mul_left}
+use Rattle.mlp_params.specs.declared.state.ChannelState.{ChannelState}
+use Rattle.mlp_residual.specs.Coding.{symbols_of}
+use Rattle.mlp_search.specs.declared.choice.Choice.{Choice}
+use Rattle.mlp_search.specs.declared.trial.Trial.{Trial}
+use Rattle.mlp_search.specs.declared.sides.Side.{Side}
+use Rattle.mlp_search.specs.Cost.{most_low, bits_for, parameter_sum, cost_over}
+use Rattle.mlp_search.specs.Folded.{stepped, all_folded, top_of, all_symbol_bits}
+use Rattle.mlp_search.specs.Least.{is_better, better, least_from, choice_of, with_offsets, with_lows}
+use Rattle.mlp_search.specs.Trial.{Writes, IsSide}
+use Rattle.mlp_search.proofs.CandidateLaws.{ranges}
+use Rattle.mlp_search.proofs.CodeBits.{fewest_bits, never_better}
+use Rattle.mlp_search.proofs.CostLaws.{costs_from, parameters_is, offset_fits}
+use Rattle.mlp_search.proofs.FoldSums.{none_fit, all_fit}
+use Rattle.mlp_search.proofs.Scanning.{Along, along_range, kept_scanned}
+
+-- ---- bounds
+
+-- a bound that isn't better than the best isn't better than what comes in its place
+better_stays : (m n : ℕ) (best : Option Choice) (c : Choice) (t : Bool) → is_better n best ≡ t → is_better m best ≡ false → is_better m (if t then Some (record c { bits = n }) else best) ≡ false
+better_stays m n None c t e h = absurd cc
+better_stays m n (Some b) c false e h = h
+better_stays m n (Some b) c true e h =
+    let less : n < b.bits = ltb-true n b.bits e in
+    le-ltb m n (omega (arith, less, ltb-false m b.bits h))
+
+one_stays : (m : ℕ) (best : Option Choice) (c : Choice) (o : Option ℕ) → is_better m best ≡ false → is_better m (better best c o) ≡ false
+one_stays m best c None h = h
+one_stays m best c (Some n) h = better_stays m n best c (is_better n best) refl h
+
+pub never_again : (cost : Choice → Option ℕ) (m : ℕ) (best : Option Choice) (cs : List Choice) → is_better m best ≡ false → is_better m (least_from cost best cs) ≡ false
+never_again cost m best [] h = h
+never_again cost m best (c ∷ cs) h = never_again cost m (better best c (cost c)) cs (one_stays m best c (cost c) h)
+
+-- a choice whose cost, where it has one, is no less than a bound that isn't better
+pub bounded : (cost : Choice → Option ℕ) (m : ℕ) (best : Option Choice) (c : Choice) → is_better m best ≡ false → ((k : ℕ) → cost c ≡ Some k → m ≤ k) → better best c (cost c) ≡ best
+bounded cost m best c h bound = pick (cost c) refl
+  where
+    pick : (o : Option ℕ) → cost c ≡ o → better best c o ≡ best
+    pick None e = refl
+    pick (Some k) e = ap (λ (t : Bool). if t then Some (record c { bits = k }) else best) (never_better m k best (bound k e) h)
+
+pub some_symbols : (book : ℕ) → 0 < symbols_of book
+some_symbols zero = omega arith
+some_symbols (suc zero) = omega arith
+some_symbols (suc (suc zero)) = omega arith
+some_symbols (suc (suc (suc book))) = omega arith
+
+pub few_symbols : (book : ℕ) → symbols_of book ≤ 32
+few_symbols zero = omega arith
+few_symbols (suc zero) = omega arith
+few_symbols (suc (suc zero)) = omega arith
+few_symbols (suc (suc (suc book))) = omega arith
+
+pub most_below_all : (book : ℕ) → most_low book ≤ 31
+most_below_all zero = omega arith
+most_below_all (suc book) = omega arith
+
+-- ---- what the choices cost
+
+module _ (force : ChannelState) (step : ℕ) (t : Trial) (vs : List ℤ) (w : Writes force t) where
+  -- what a cost is made of
+  record Priced (c : Choice) (k : ℕ) : Type 0 where
+    from : step ≤ c.low
+    most : c.low ≤ most_low c.book
+    codes : ℕ
+    taken : bits_for c.book (c.low - step) c.offset step (map (stepped step) vs) ≡ Some codes
+    total : k ≡ parameter_sum force t.pair c + codes
+
+  priced : (c : Choice) (k : ℕ) → cost_over force step true t.pair (map (stepped step) vs) c ≡ Some k → Priced c k
+  priced c k e =
+      let h = costs_from force step true t.pair (map (stepped step) vs) c k e in
+      let r = ranges step true c h.range in
+      let is = parameters_is force t.pair c w.pair (offset_fits step (map (stepped step) vs) c.offset h.offset) in
+      record { from = r.from; most = r.low; codes = h.codes; taken = h.taken; total = omega (arith, h.total, is) }
+
+  -- low bits that are no candidates
+  pub kept_outside : (c : Choice) (best : Option Choice) → (step ≤ c.low → c.low ≤ most_low c.book → ⊥) → better best c (cost_over force step true t.pair (map (stepped step) vs) c) ≡ best
+  kept_outside c best out = never (cost_over force step true t.pair (map (stepped step) vs) c) refl
+    where
+      never : (o : Option ℕ) → cost_over force step true t.pair (map (stepped step) vs) c ≡ o → better best c o ≡ best
+      never None e = refl
+      never (Some k) e = absurd (let p = priced c k e in out p.from p.most)
+
+  module _ (s : Side) (is : IsSide force step t vs s) where
+    -- a value without a code
+    pub kept_none : (c : Choice) (best : Option Choice) → c.offset ≡ s.offset → 0 < symbols_of c.book → symbols_of c.book ≤ s.top / 2 ^ (c.low - step) → better best c (cost_over force step true t.pair (map (stepped step) vs) c) ≡ best
+    kept_none c best at some le = never (cost_over force step true t.pair (map (stepped step) vs) c) refl
+      where
+        beyond : symbols_of c.book ≤ top_of (all_folded c.offset vs) / 2 ^ (c.low - step)
+        beyond = subst (λ (z : ℤ). symbols_of c.book ≤ top_of (all_folded z vs) / 2 ^ (c.low - step)) (sym at) (omega (arith, le, ap (λ (n : ℕ). n / 2 ^ (c.low - step)) is.top))
+
+        never : (o : Option ℕ) → cost_over force step true t.pair (map (stepped step) vs) c ≡ o → better best c o ≡ best
+        never None e = refl
+        never (Some k) e =
+            absurd (
+            let p = priced c k e in
+            let none = none_fit c.book (c.low - step) step c.offset vs beyond some in
+            let both : Some p.codes ≡ None = sym p.taken ∙ none in
+            cc
+            )
+
+    -- the low bits alone
+    pub low_bound : (c : Choice) (k : ℕ) → c.filter ≡ t.number → c.offset ≡ s.offset → cost_over force step true t.pair (map (stepped step) vs) c ≡ Some k → s.base + length vs * (c.low - step) ≤ k
+    low_bound c k number at e =
+        let p = priced c k e in
+        let low = fewest_bits c.book (c.low - step) step c.offset (map (stepped step) vs) p.codes p.taken in
+        let each : (c.low - step) * length vs ≤ p.codes = subst (λ (n : ℕ). (c.low - step) * n ≤ p.codes) (length-map vs (stepped step)) low in
+        omega (arith, p.total, is.base c number at, each)
+
+    -- what codes there are
+    codes_are : (c : Choice) (k : ℕ) (p : Priced c k) → c.offset ≡ s.offset → 0 < symbols_of c.book → p.codes ≡ length vs * (c.low - step) + all_symbol_bits c.book (c.low - step) (all_folded s.offset vs)
+    codes_are c k p at some = elim (cases_lt (top_of (all_folded c.offset vs) / 2 ^ (c.low - step)) (symbols_of c.book)) [
+      | inl lt ↦
+          let all = all_fit c.book (c.low - step) step c.offset vs lt in
+          let both : Some p.codes ≡ Some (length vs * (c.low - step) + all_symbol_bits c.book (c.low - step) (all_folded c.offset vs)) = sym p.taken ∙ all in
+          let same : p.codes ≡ length vs * (c.low - step) + all_symbol_bits c.book (c.low - step) (all_folded c.offset vs) = cc in
+          same ∙ ap (λ (z : ℤ). length vs * (c.low - step) + all_symbol_bits c.book (c.low - step) (all_folded z vs)) at
+      | inr ge ↦
+          absurd (
+          let none = none_fit c.book (c.low - step) step c.offset vs ge some in
+          let both : Some p.codes ≡ None = sym p.taken ∙ none in
+          cc
+          )
+    ]
+
+    -- the bits of the codes
+    pub code_bound : (c : Choice) (k m : ℕ) → c.filter ≡ t.number → c.offset ≡ s.offset → 0 < symbols_of c.book → m ≤ s.base + length vs * (c.low - step) + all_symbol_bits c.book (c.low - step) (all_folded s.offset vs)
+        → cost_over force step true t.pair (map (stepped step) vs) c ≡ Some k → m ≤ k
+    code_bound c k m number at some le e =
+        let p = priced c k e in
+        omega (arith, p.total, is.base c number at, codes_are c k p at some, le)
+
+  -- ---- both offsets
+
+  module _ (z m : Side) (zis : IsSide force step t vs z) (mis : IsSide force step t vs m) (zat : z.offset ≡ pos 0) (mat : m.offset ≡ t.middle) where
+    -- below the low bits from which on there are codes
+    pub none_before : (book first j : ℕ) (best : Option Choice) → j < first → ((b : ℕ) → step + b < first → (symbols_of book ≤ z.top / 2 ^ b) × (symbols_of book ≤ m.top / 2 ^ b))
+        → Along (λ c. better best c (cost_over force step true t.pair (map (stepped step) vs) c) ≡ best) (with_offsets t.number t.middle book j)
+    none_before book first j best lt none = elim (cases_lt j step) [
+      | inl under ↦ (
+        kept_outside (choice_of t.number book j (pos 0)) best (λ from most. absurd (omega (arith, from, under))),
+        (kept_outside (choice_of t.number book j t.middle) best (λ from most. absurd (omega (arith, from, under))), tt),
+      )
+      | inr from ↦
+          let both = none (j - step) (omega (arith, from, lt)) in (
+            kept_none z zis (choice_of t.number book j (pos 0)) best (sym zat) (some_symbols book) both.0,
+            (kept_none m mis (choice_of t.number book j t.middle) best (sym mat) (some_symbols book) both.1, tt),
+          )
+    ]
+
+    -- beyond the most low bits
+    pub none_behind : (book j : ℕ) (best : Option Choice) → most_low book < j → Along (λ c. better best c (cost_over force step true t.pair (map (stepped step) vs) c) ≡ best) (with_offsets t.number t.middle book j)
+    none_behind book j best over = (
+      kept_outside (choice_of t.number book j (pos 0)) best (λ from most. absurd (omega (arith, most, over))),
+      (kept_outside (choice_of t.number book j t.middle) best (λ from most. absurd (omega (arith, most, over))), tt),
+    )
+
+    more_low : (s : Side) (base low j : ℕ) → base ≤ s.base → low ≤ j → base + length vs * (low - step) ≤ s.base + length vs * (j - step)
+    more_low s base low j le up = omega (arith, le, mul-le-mul_left (length vs) (let l : low - step ≤ j - step = omega (arith, up) in l))
+
+    -- from low bits on that alone take as many bits as the best
+    pub low_behind : (book base low j : ℕ) (best : Option Choice) → low ≤ j → base ≤ z.base → base ≤ m.base → is_better (base + length vs * (low - step)) best ≡ false
+        → Along (λ c. better best c (cost_over force step true t.pair (map (stepped step) vs) c) ≡ best) (with_offsets t.number t.middle book j)
+    low_behind book base low j best up zle mle h = (
+      bounded (cost_over force step true t.pair (map (stepped step) vs)) (base + length vs * (low - step)) best (choice_of t.number book j (pos 0)) h
+          (λ k e. let l = low_bound z zis (choice_of t.number book j (pos 0)) k refl (sym zat) e in omega (arith, l, more_low z base low j zle up)),
+      (
+        bounded (cost_over force step true t.pair (map (stepped step) vs)) (base + length vs * (low - step)) best (choice_of t.number book j t.middle) h
+            (λ k e. let l = low_bound m mis (choice_of t.number book j t.middle) k refl (sym mat) e in omega (arith, l, more_low m base low j mle up)),
+        tt,
+      ),
+    )
+
+    -- a book in which all take as many bits as the best
+    pub book_kept : (book least : ℕ) (best : Option Choice) → 0 < book → least ≤ z.least → least ≤ m.least → is_better least best ≡ false
+        → Along (λ c. better best c (cost_over force step true t.pair (map (stepped step) vs) c) ≡ best) (with_lows t.number t.middle book)
+    book_kept book least best some zle mle h =
+        along_range (λ c. better best c (cost_over force step true t.pair (map (stepped step) vs) c) ≡ best) (with_offsets t.number t.middle book) 0 32 (λ low from to. (
+          bounded (cost_over force step true t.pair (map (stepped step) vs)) least best (choice_of t.number book low (pos 0)) h
+              (λ k e. code_bound z zis (choice_of t.number book low (pos 0)) k least refl (sym zat) (some_symbols book) (omega (arith, zle, zis.least book (low - step) some)) e),
+          (
+            bounded (cost_over force step true t.pair (map (stepped step) vs)) least best (choice_of t.number book low t.middle) h
+                (λ k e. code_bound m mis (choice_of t.number book low t.middle) k least refl (sym mat) (some_symbols book) (omega (arith, mle, mis.least book (low - step) some)) e),
+            tt,
+          ),
+        ))
+
+    pub books_kept : (least : ℕ) (best : Option Choice) → least ≤ z.least → least ≤ m.least → is_better least best ≡ false
+        → best ≡ least_from (cost_over force step true t.pair (map (stepped step) vs)) best (flat_map (with_lows t.number t.middle) (range_with_len 1 3))
+    books_kept least best zle mle h =
+        sym (kept_scanned (cost_over force step true t.pair (map (stepped step) vs)) best (flat_map (with_lows t.number t.middle) (range_with_len 1 3))
+        (along_range (λ c. better best c (cost_over force step true t.pair (map (stepped step) vs) c) ≡ best) (with_lows t.number t.middle) 1 3 (λ book from to. book_kept book least best (omega (arith, from)) zle mle h)))

@@ -1,0 +1,270 @@
+//! The choices of the filters on trial, one after the other.
+
+ghost use Rattle.std.specs.Prelude.{◌≡◌, ℕ, List, ◌≤◌, ◌<◌, ◌-◌, ◌*◌, ◌/◌, ◌^◌, ◌+◌, length, map, All, FitsSigned, true, Some};
+ghost use Rattle.std.specs.Int.{w32};
+ghost use Rattle.std.specs.List.{flat_map, range_with_len};
+ghost use Rattle.mlp_residual.specs.Coding.{symbols_of};
+ghost use Rattle.mlp_search.specs.Cost.{in_range, is_offset, most_low, cost_over};
+ghost use Rattle.mlp_search.specs.Folded.{stepped, all_folded, top_of, all_symbol_bits, raised_sum};
+ghost use Rattle.mlp_search.specs.Least.{is_better, better, least_from, choice_of, with_offsets, with_lows, with_books};
+ghost use Rattle.mlp_search.specs.Trial.{Writes, IsTrial, IsSide, IsSmall, AreSides};
+
+use crate::choice::Choice;
+use crate::costs::{most_low, parameter_sum};
+use crate::folds::symbol_sum;
+use crate::sides::{Side, Sides, sides_of};
+use crate::trial::Trial;
+use mlp_params::ChannelState;
+
+/// Whether a choice that costs so much comes in the place of the best so far.
+fn is_better(bits: u64, best: Option<Choice>) -> bool
+    ensures { result ≡ is_better bits best }
+{
+    match best {
+        Some(choice) => bits < choice.bits,
+        None => true,
+    }
+}
+
+/// The best so far, with one choice more, which may have no cost.
+fn better(best: Option<Choice>, choice: Choice, cost: Option<u64>) -> Option<Choice>
+    ensures { result ≡ better best choice cost }
+{
+    let Some(bits) = cost else {
+        return best;
+    };
+    if is_better(bits, best) {
+        Some(Choice { bits, ..choice })
+    } else {
+        best
+    }
+}
+
+/// How many symbols a book has.
+fn symbols_of(book: u8) -> u64
+    requires { book ≤ 3 }
+    ensures { result ≡ symbols_of book }
+{
+    match book {
+        0 => 1,
+        1 => 18,
+        2 => 16,
+        _ => 15,
+    }
+}
+
+/// No more than the bits of parameters and codes, of values that are moved by an offset.
+fn fewest_bits(side: &Side, book: u8, b: u8, count: u64) -> u64
+    requires book { book ≤ 3 }
+    requires b { b < 32 }
+    requires few { count ≤ 160 }
+    requires base { side.now.base ≤ 65561 }
+    requires sum { side.now.sum < 2 ^ 32 }
+    ensures { (us : List ℕ) → length us ≡ count → side.now.sum ≤ raised_sum us →
+        result ≤ side.now.base + length us * b + all_symbol_bits book b us }
+{
+    let low_bits = u64::from(b);
+    if book == 0 {
+        return side.base + count * low_bits;
+    }
+    let power = if book == 1 { low_bits + 1 } else { low_bits };
+    let twice = (2 * power + 1) * count + (side.sum >> power);
+    side.base + (twice + 1) / 2
+}
+
+pub(crate) fn choice_of(filter: u8, book: u8, low: u8, offset: i16) -> Choice
+    ensures { result ≡ choice_of filter book low offset }
+{
+    Choice {
+        filter,
+        book,
+        low,
+        offset,
+        bits: 0,
+    }
+}
+
+/// What a choice costs that has a code for each value.
+fn cost_with_codes(
+    state: &ChannelState,
+    step: u8,
+    trial: &Trial,
+    values: &[i32],
+    choice: &Choice,
+) -> u64
+    requires step { step ≤ 8 }
+    requires writes { Writes state.now trial.now }
+    requires few { length values.now ≤ 160 }
+    requires words { All (FitsSigned w32) (map (stepped step) values.now) }
+    requires number { choice.now.filter ≡ trial.now.number }
+    requires range { in_range step true choice.now ≡ true }
+    requires offset { is_offset step (map (stepped step) values.now) choice.now.offset ≡ true }
+    requires codes { let c = choice.now in
+        top_of (all_folded c.offset values.now) / 2 ^ (c.low - step) < symbols_of c.book }
+    ensures { Some result
+        ≡ cost_over state.now step true trial.now.pair (map (stepped step) values.now) choice.now }
+{
+    let b = choice.low - step;
+    let low_bits = values.len() as u64 * u64::from(b);
+    let symbols = symbol_sum(choice.book, values, choice.offset, b);
+    parameter_sum(state, trial, choice) + (low_bits + symbols)
+}
+
+/// The best so far, with one choice more of the filters on trial.
+fn tried(
+    state: &ChannelState,
+    step: u8,
+    trial: &Trial,
+    side: &Side,
+    values: &[i32],
+    best: Option<Choice>,
+    book: u8,
+    low: u8,
+) -> Option<Choice>
+    requires step { step ≤ 8 }
+    requires writes { Writes state.now trial.now }
+    requires few { length values.now ≤ 160 }
+    requires words { All (FitsSigned w32) (map (stepped step) values.now) }
+    requires side { IsSide state.now step trial.now values.now side.now }
+    requires small { IsSmall side.now }
+    requires book { book ≤ 3 }
+    requires from { step ≤ low }
+    requires most { low ≤ most_low book }
+    ensures { let c = choice_of trial.now.number book low side.now.offset in result
+        ≡ better best c
+        (cost_over state.now step true trial.now.pair (map (stepped step) values.now) c) }
+{
+    let b = low - step;
+    if side.top >> b >= symbols_of(book) {
+        return best;
+    }
+    if !is_better(fewest_bits(side, book, b, values.len() as u64), best) {
+        return best;
+    }
+    let choice = choice_of(trial.number, book, low, side.offset);
+    let bits = cost_with_codes(state, step, trial, values, &choice);
+    better(best, choice, Some(bits))
+}
+
+/// The best so far, with the choices of a book and low bits.
+fn with_offsets(
+    state: &ChannelState,
+    step: u8,
+    trial: &Trial,
+    sides: &Sides,
+    values: &[i32],
+    best: Option<Choice>,
+    book: u8,
+    low: u8,
+) -> Option<Choice>
+    requires step { step ≤ 8 }
+    requires writes { Writes state.now trial.now }
+    requires few { length values.now ≤ 160 }
+    requires words { All (FitsSigned w32) (map (stepped step) values.now) }
+    requires sides { AreSides state.now step trial.now values.now sides.now }
+    requires book { book ≤ 3 }
+    requires from { step ≤ low }
+    requires most { low ≤ most_low book }
+    ensures { let t = trial.now in result
+        ≡ least_from (cost_over state.now step true t.pair (map (stepped step) values.now)) best
+        (with_offsets t.number t.middle book low) }
+{
+    let first = tried(state, step, trial, &sides.zero, values, best, book, low);
+    tried(state, step, trial, &sides.middle, values, first, book, low)
+}
+
+/// Fewer low bits than these leave some value without a code.
+fn first_low(step: u8, sides: &Sides, book: u8) -> u8
+    requires step { step ≤ 8 }
+    requires book { book ≤ 3 }
+    ensures from { step ≤ result }
+    ensures most { result ≤ most_low book + 1 }
+    ensures none { (b : ℕ) → step + b < result →
+        (symbols_of book ≤ sides.now.zero.top / 2 ^ b) × (symbols_of book ≤ sides.now.middle.top / 2 ^ b) }
+{
+    let width = 64 - sides.zero.top.min(sides.middle.top).leading_zeros();
+    let fewest = if book == 0 {
+        width
+    } else {
+        width.saturating_sub(5)
+    };
+    (step + fewest as u8).min(most_low(book) + 1)
+}
+
+/// The best so far, with the choices of a book.
+fn with_lows(
+    state: &ChannelState,
+    step: u8,
+    trial: &Trial,
+    sides: &Sides,
+    values: &[i32],
+    mut best: Option<Choice>,
+    book: u8,
+) -> Option<Choice>
+    requires step { step ≤ 8 }
+    requires writes { Writes state.now trial.now }
+    requires few { length values.now ≤ 160 }
+    requires words { All (FitsSigned w32) (map (stepped step) values.now) }
+    requires sides { AreSides state.now step trial.now values.now sides.now }
+    requires book { book ≤ 3 }
+    ensures { let t = trial.now in result
+        ≡ least_from (cost_over state.now step true t.pair (map (stepped step) values.now)) best
+        (with_lows t.number t.middle book) }
+{
+    let base = sides.zero.base.min(sides.middle.base);
+    for low in first_low(step, sides, book)..most_low(book) + 1 {
+        if !is_better(base + values.len() as u64 * u64::from(low - step), best) {
+            return best;
+        }
+        best = with_offsets(state, step, trial, sides, values, best, book, low);
+    }
+    best
+}
+
+/// The best so far, with the choices of the three books.
+fn with_codebooks(
+    state: &ChannelState,
+    step: u8,
+    trial: &Trial,
+    sides: &Sides,
+    values: &[i32],
+    mut best: Option<Choice>,
+) -> Option<Choice>
+    requires step { step ≤ 8 }
+    requires writes { Writes state.now trial.now }
+    requires few { length values.now ≤ 160 }
+    requires words { All (FitsSigned w32) (map (stepped step) values.now) }
+    requires sides { AreSides state.now step trial.now values.now sides.now }
+    ensures { let t = trial.now in result
+        ≡ least_from (cost_over state.now step true t.pair (map (stepped step) values.now)) best
+        (flat_map (with_lows t.number t.middle) (range_with_len 1 3)) }
+{
+    if !is_better(sides.zero.least.min(sides.middle.least), best) {
+        return best;
+    }
+    for book in 1..4 {
+        best = with_lows(state, step, trial, sides, values, best, book);
+    }
+    best
+}
+
+/// The best so far, with the choices of the filters on trial.
+pub(crate) fn with_books(
+    state: &ChannelState,
+    step: u8,
+    trial: &Trial,
+    values: &[i32],
+    best: Option<Choice>,
+) -> Option<Choice>
+    requires step { step ≤ 8 }
+    requires trial { IsTrial state.now 0 values.now trial.now }
+    requires few { length values.now ≤ 160 }
+    requires words { All (FitsSigned w32) (map (stepped step) values.now) }
+    ensures { let t = trial.now in result
+        ≡ least_from (cost_over state.now step true t.pair (map (stepped step) values.now)) best
+        (with_books t.number t.middle) }
+{
+    let sides = sides_of(state, step, trial, values);
+    let uncoded = with_lows(state, step, trial, &sides, values, best, 0);
+    with_codebooks(state, step, trial, &sides, values, uncoded)
+}
