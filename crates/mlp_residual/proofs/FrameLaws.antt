@@ -9,7 +9,7 @@ use Rattle.std.proofs.Math.Seq.{take-append-add}
 use Rattle.std.proofs.lemmas.List.{length-append, length-take-le, length-take, length-drop, take_at, take-take}
 use Rattle.std.proofs.lemmas.Slice.{take-put_mid}
 use borrow.Rule.Slice.PartMut.{put_mid}
-use Rattle.mlp_layout.specs.Combined.{series, times, listed}
+use Rattle.mlp_layout.specs.Combined.{series, listed}
 use Rattle.mlp_layout.specs.Allowed.{Allowed}
 use Rattle.mlp_layout.proofs.LayoutLaws.{seen_is}
 use Rattle.mlp_layout.proofs.CombinedLaws.{layouts, times_count}

@@ -7,8 +7,7 @@ use Rattle.std.proofs.lemmas.Bool.{cases_lt}
 use Rattle.std.proofs.lemmas.Int.{ints}
 use Rattle.mlp_syntax.specs.declared.segment.Code.{Code}
 use Rattle.mlp_books.specs.Books.{symbol_in}
-use Rattle.mlp_books.proofs.TableLaws.{fits0, fits1, fits2, fits3}
-use Rattle.mlp_residual.specs.Coding.{symbols_of, sign_offset, Spells, TakeBits, Counts}
+use Rattle.mlp_residual.specs.Coding.{sign_offset, Spells, TakeBits, Counts}
 use Rattle.mlp_residual.proofs.Codes.{place_of, spelled}
 use Rattle.mlp_residual.proofs.Counting.{Takes, length_is, symbols_fit}
 

@@ -8,6 +8,9 @@ ghost use Rattle.mlp_residual.specs.Coding.{symbols_of, sign_offset, value_of, r
 use mlp_arith::{clear, floor_by, wrap};
 use mlp_syntax::Code;
 
+/// How many symbols each book has.
+const SYMBOLS: [u64; 4] = [1, 18, 16, 15];
+
 /// How many symbols a book has.
 #[inline]
 fn symbols_of(book: u8) -> u64
@@ -15,12 +18,7 @@ fn symbols_of(book: u8) -> u64
     ensures value { result ≡ symbols_of book }
     ensures most { result ≤ 18 }
 {
-    match book {
-        0 => 1,
-        1 => 18,
-        2 => 16,
-        _ => 15,
-    }
+    SYMBOLS[usize::from(book)]
 }
 
 /// Two to a power.
