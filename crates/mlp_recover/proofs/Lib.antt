@@ -5,3 +5,4 @@ pub mod Syncs
 pub mod Steps
 pub mod Finding
 pub mod SomePieces
+pub mod Checks

@@ -1,10 +1,11 @@
 -- Units from the first on.
-use Rattle.std.proofs.Common.{◌≡◌, ℕ, zero, suc, ◌+◌, ◌<◌, ◌≤◌, Bool, true, false, List, [], ◌∷◌, ◌++◌, length, get_or, replicate, Option, Some, None, ℤ, refl, sym, ap, subst, ◌∙◌, arith}
+use Rattle.std.proofs.Common.{◌≡◌, ◌≢◌, ℕ, zero, suc, ◌+◌, ◌<◌, ◌≤◌, Bool, true, false, List, [], ◌∷◌, ◌++◌, length, get_or, replicate, Option, Some, None, ℤ, refl, sym, ap, subst, ◌∙◌, arith}
 use Rattle.std.specs.Prelude.{IsTrue, is_some, not, ◌||◌}
 use Rattle.std.specs.List.{list_any}
 use Rattle.std.proofs.lemmas.List.Elements.{All-nil}
 use Rattle.std.proofs.lemmas.List.{length-replicate}
 use Rattle.mlp_syntax.specs.declared.major.MajorSync.{MajorSync}
+use Rattle.mlp_syntax.specs.declared.restart.Restart.{Restart}
 use Rattle.mlp_syntax.specs.declared.segment.BlockHead.{BlockHead}
 use Rattle.mlp_predict.specs.Prediction.{zeros}
 use Rattle.mlp_predict.specs.Outputs.{IsWithin}
@@ -194,6 +195,26 @@ ran_first k u us all rest b =
       matrices = λ j le. more.matrices j le ∙ begins j le
           ∙ ap matrix_of (first_of (top_of j u.contents).blocks.items (blocks_in j us) (has_blocks k (start k) all u b.0 sync [] refl tt begun j le));
     }
+
+-- a unit with a major sync behind others: something is in force before it, and each of its segments begins with a restart
+pub restart_there : (k : ℕ) (all rest : List Bool) (us : List Unit_of) (u : Unit_of) → Begins (whole k) (start k) all us rest → us ≢ [] → IsNext (whole k) (left_after (whole k) (start k) us) rest u → is_some u.outer.major ≡ true
+    → (is_some (matrix_in_force (coded_at (left_after (whole k) (start k) us).substreams k).force) ≡ true) × (is_some (matrix_of (first_restart (top_of k u.contents).blocks.items)) ≡ true)
+unfolding Begins
+restart_there k all rest [] u b some next major = absurd (some refl)
+restart_there k all rest (v ∷ vs) u b some next major =
+    let sync = v.outer.major in
+    let left = left_after (whole k) (start k) (v ∷ vs) in
+    let begun = at_start (place_in sync) k in
+    let first = along_after k (start k) all v b.0 sync [] refl tt begun in
+    let there = matrices_some k (start k) all v b.0 sync [] refl tt begun first.some k (omega arith) in
+    let blocks = first_of (top_of k v.contents).blocks.items (blocks_in k vs) (has_blocks k (start k) all v b.0 sync [] refl tt begun k (omega arith)) in
+    let ran = ran_first k v vs all rest b in
+    let along = ran.along in
+    let same : in_force left.sync u.outer.major ≡ sync = ap (λ (s : Option MajorSync). in_force s u.outer.major) along.same ∙ in_force_some sync u.outer.major along.some in
+    let usable = subst FirstUsable (sym along.same) along.usable in (
+      ap is_some (ran.matrices k (omega arith)) ∙ ap (λ (o : Option Restart). is_some (matrix_of o)) (sym blocks) ∙ there,
+      matrices_some k left rest u next sync (since_sync [] (v ∷ vs)) same usable along.interval major k (omega arith),
+    )
 
 pub samples_are : (k : ℕ) (all rest : List Bool) (us : List Unit_of) → Begins (whole k) (start k) all us rest → frames_by_steps k (start k) us ≡ samples k us
 samples_are k all rest [] b = refl

@@ -62,13 +62,13 @@ module _ (k : ℕ) (left : Left) (u : Unit_of) (text : List Bool) (found : Found
   abbrev portions : List Segment → Portion Segment
   portions = portion k place left.substreams (folded left.check) u.outer
 
-  unit_count : length u.contents ≡ k + 1
+  pub unit_count : length u.contents ≡ k + 1
   unit_count = each_count portions text (k + 1) [] u.contents found.fits
 
   abbrev known_at : ℕ → Known
   known_at j = known k (coded_at left.substreams j).force (folded left.check) (take j u.contents)
 
-  unit_allowed : (j : ℕ) → j ≤ k → IsAllowed (segment place (known_at j) (coded_at left.substreams j).force (is_checked u.outer.entries j)) (top_of j u.contents)
+  pub unit_allowed : (j : ℕ) → j ≤ k → IsAllowed (segment place (known_at j) (coded_at left.substreams j).force (is_checked u.outer.entries j)) (top_of j u.contents)
   unit_allowed j le =
       let there : length (take j u.contents) ≡ j = length-take-le j u.contents (omega (arith, unit_count)) in
       segment_at k place left.substreams (folded left.check) u.outer j j (take j u.contents) (top_of j u.contents) there
