@@ -1,0 +1,10 @@
+pub mod TopLaws
+pub mod TopStreams
+pub mod Decoders
+pub mod Putting
+pub mod Taking
+pub mod Stamps
+pub mod Texts
+pub mod Rewriting
+pub mod RetimeSteps
+pub mod RetimeFollows
