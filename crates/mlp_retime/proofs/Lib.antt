@@ -8,3 +8,4 @@ pub mod Texts
 pub mod Rewriting
 pub mod RetimeSteps
 pub mod RetimeFollows
+pub mod Pieces

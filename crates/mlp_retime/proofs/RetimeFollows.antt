@@ -55,7 +55,7 @@ pub fifo_more : (fifo : LeftFifo) (bs : List ℕ) (b : ℕ) → fifo_behind fifo
 fifo_more fifo [] b = refl
 fifo_more fifo (x ∷ bs) b = fifo_more (behind_placed fifo (placed fifo x)) bs b
 
-left_on : (us : List Unit_of) (u : Unit_of) → left_after top (start 0) (us ++ u ∷ []) ≡ top.after (left_after top (start 0) us) u
+pub left_on : (us : List Unit_of) (u : Unit_of) → left_after top (start 0) (us ++ u ∷ []) ≡ top.after (left_after top (start 0) us) u
 left_on us u = left_more top top_is (start 0) us (u ∷ [])
 
 -- ---- one more unit

@@ -30,7 +30,7 @@ place_forced None None = refl
 place_forced None (Some m) = refl
 place_forced (Some f) major = refl
 
-begun_sync : (k : ℕ) (left : Left) (sync : Option MajorSync) → left.sync ≡ sync → (if is_none sync then start k else left).sync ≡ left.sync
+pub begun_sync : (k : ℕ) (left : Left) (sync : Option MajorSync) → left.sync ≡ sync → (if is_none sync then start k else left).sync ≡ left.sync
 begun_sync k left None e = sym e
 begun_sync k left (Some m) e = refl
 

@@ -5,3 +5,4 @@ pub mod Stamping
 pub mod Retimer
 pub mod SessionLaws
 pub mod Runs
+pub mod Laws
