@@ -1,12 +1,12 @@
 -- What a run says.
-use Rattle.std.specs.Prelude.{◌≡◌, ℕ, ◌+◌, ◌≤◌, List, length, take, Result, Ok, Err, Option, Some, None}
+use Rattle.std.specs.Prelude.{◌≡◌, ℕ, ◌+◌, ◌≤◌, List, length, take, Result, Err, Option, Some, None}
 use Rattle.std.specs.Io.KnownBytes.{Consumes, Appends}
 use Rattle.mlp_io.specs.Causes.{Rose}
 use Rattle.mlp_stream.specs.declared.stop.Stop.{Stop}
 use Rattle.mlp_stream.specs.Sides.{Side}
 use Rattle.mlp_io.specs.Limit.{limit}
 use Rattle.mlp_answers.specs.declared.failure.Failure.{Failure}
-use Rattle.mlp_answers.specs.declared.failure.Failure.TheVariants.{Usage, Stopped}
+use Rattle.mlp_answers.specs.declared.failure.Failure.TheVariants.{Usage}
 use Rattle.mlp_tool.specs.declared.words.Command.{Command}
 use Rattle.mlp_tool.specs.declared.words.Command.TheVariants as command
 use Rattle.mlp_tool.specs.Words.{plain, presentation_in}
@@ -15,15 +15,12 @@ use Rattle.mlp_answers.specs.Working.{Working}
 use Rattle.mlp_answers.specs.Works.{Works}
 use Rattle.mlp_check.specs.Runs.{Checks}
 use Rattle.mlp_cut.specs.Cutting.{cutting}
+use Rattle.mlp_editing.specs.Mended.{Mended}
 use Rattle.mlp_extract.specs.Extracting.{extracting}
 use Rattle.mlp_sessions.specs.Listing.{listing}
 use Rattle.mlp_sessions.specs.Playing.{playing}
+use Rattle.mlp_wave.specs.Failures.{end_of}
 use Rattle.mlp_wave.specs.Saved.{Saved}
-
--- the end of the work on an input is one of the run
-abbrev pub end_of : Result Unit Stop → Result Unit Failure
-end_of (Ok _) = Ok tt
-end_of (Err stop) = Err (Stopped stop)
 
 -- the work was done, or stopped
 abbrev pub Did : {L O C : Type 0} → Working L O C → Side → Side → Result Unit Failure → Type 0
@@ -38,6 +35,7 @@ Does (Some (command.Extract presentation)) input output end = Did (extracting pr
 Does (Some command.List) input output end = Did listing input output end
 Does (Some (command.Check presentation)) input output end = Checks presentation input output end
 Does (Some (command.Cut first count)) input output end = Did (cutting first count) input output end
+Does (Some (command.Recover presentation)) input output end = Mended presentation input output end
 
 -- no more bytes were taken than one past the limit
 abbrev pub TakesFew : Side → Type 0

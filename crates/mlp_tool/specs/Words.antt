@@ -18,6 +18,7 @@ verb_of word =
     else if bytes_eq word (codes "list") then Some verb.List
     else if bytes_eq word (codes "check") then Some verb.Check
     else if bytes_eq word (codes "cut") then Some verb.Cut
+    else if bytes_eq word (codes "recover") then Some verb.Recover
     else None
 
 abbrev pub word_of : Name → List ℕ
@@ -33,6 +34,7 @@ options_of verb.Extract = Presentation ∷ []
 options_of verb.List = []
 options_of verb.Check = Presentation ∷ []
 options_of verb.Cut = First ∷ Count ∷ []
+options_of verb.Recover = Presentation ∷ []
 
 -- the option that a word names, among these
 abbrev pub option_of : List Name → List ℕ → Option Name
@@ -102,6 +104,7 @@ command_of words verb.Extract = by_one command.Extract (presentation_given words
 command_of words verb.List = Some command.List
 command_of words verb.Check = by_one command.Check (presentation_given words)
 command_of words verb.Cut = by_two command.Cut (number_given First words) (number_given Count words)
+command_of words verb.Recover = by_one command.Recover (presentation_given words)
 
 abbrev pub with_options : List (List ℕ) → Verb → Option Command
 with_options words verb = if are_options (options_of verb) words then command_of words verb else None
@@ -120,6 +123,7 @@ presentation_in (Some (command.Extract presentation)) = presentation
 presentation_in (Some command.List) = 0
 presentation_in (Some (command.Check presentation)) = presentation
 presentation_in (Some (command.Cut first count)) = 0
+presentation_in (Some (command.Recover presentation)) = presentation
 
 -- the bits of a sample in what a command writes
 abbrev pub bits_in : Option Command → ℕ

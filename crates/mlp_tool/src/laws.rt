@@ -4,6 +4,7 @@ ghost use Rattle.mlp_answers.specs.Answers.{HasOneAnswer};
 ghost use Rattle.mlp_check.specs.Checking.{checking};
 ghost use Rattle.mlp_cut.specs.Cutting.{cutting};
 ghost use Rattle.mlp_extract.specs.Extracting.{extracting};
+ghost use Rattle.mlp_recover.specs.Laws.{HasOneRecovery};
 ghost use Rattle.mlp_sessions.specs.Listing.{listing};
 ghost use Rattle.mlp_sessions.specs.Playing.{playing};
 ghost use Rattle.mlp_wave.specs.Saved.{HasOneFile};
@@ -17,4 +18,5 @@ pub fn law_one_answer()
     ensures list { (all : List ℕ) → HasOneAnswer listing all }
     ensures check { (k : ℕ) (all : List ℕ) → HasOneAnswer (checking k) all }
     ensures cut { (f c : ℕ) (all : List ℕ) → HasOneAnswer (cutting f c) all }
+    ensures recover { (k : ℕ) (all : List ℕ) → HasOneRecovery k all }
 {}

@@ -9,15 +9,17 @@ ghost use Rattle.mlp_cut.specs.Cutting.{cutting};
 ghost use Rattle.mlp_extract.specs.Extracting.{extracting};
 ghost use Rattle.mlp_sessions.specs.Listing.{listing};
 ghost use Rattle.mlp_sessions.specs.Playing.{playing};
+ghost use Rattle.mlp_wave.specs.Failures.{end_of};
 ghost use Rattle.mlp_tool.specs.Words.{presentation_in, IsKnown};
 ghost use Rattle.mlp_tool.specs.Lines.{status_of};
-ghost use Rattle.mlp_tool.specs.Run.{end_of, Does, TakesFew, Told, Ran};
+ghost use Rattle.mlp_tool.specs.Run.{Does, TakesFew, Told, Ran};
 
 use crate::line::{line_of, status_of};
 use crate::words::{Command, plain};
 use mlp_answers::Failure;
 use mlp_check::Check;
 use mlp_cut::Cutter;
+use mlp_editing::recover_input;
 use mlp_extract::Extractor;
 use mlp_io::{Sink, Source, put_all};
 use mlp_sessions::{Decode, List};
@@ -150,6 +152,9 @@ fn work<S: Source, K: Sink>(
         Some(Command::List) => failure_of(list(input, output)),
         Some(Command::Check { presentation }) => check(alloc, *presentation, input, output),
         Some(Command::Cut { first, count }) => failure_of(cut(*first, *count, input, output)),
+        Some(Command::Recover { presentation }) => {
+            recover_input(alloc, *presentation, input, output)
+        }
     }
 }
 
@@ -170,13 +175,14 @@ fn presentation_in(command: &Option<Command>) -> u8
         Some(Command::DecodeWav { presentation, .. }) => *presentation,
         Some(Command::Extract { presentation }) => *presentation,
         Some(Command::Check { presentation }) => *presentation,
+        Some(Command::Recover { presentation }) => *presentation,
     }
 }
 
 /// Runs the words over an input and an output, tells the line of the end to `errors`, and answers its status.
 ///
-/// `check` takes memory from `alloc` before it reads, and `decode-wav` for the samples; no other command does. A run takes
-/// at most one byte more than 2^40 from the input.
+/// `check` takes memory from `alloc` before it reads, `decode-wav` for the samples and `recover` for the input; no other
+/// command does. A run takes at most one byte more than 2^40 from the input.
 ///
 /// # Errors
 ///

@@ -15,6 +15,7 @@ pub enum Verb {
     List,
     Check,
     Cut,
+    Recover,
 }
 
 /// An option's name.
@@ -41,6 +42,8 @@ pub enum Command {
     Check { presentation: u8 },
     /// Write `count` access units from the one of number `first` on, byte for byte.
     Cut { first: u64, count: u64 },
+    /// Write the samples of a presentation in those restart intervals that are intact.
+    Recover { presentation: u8 },
 }
 
 fn verb_of(word: &str) -> Option<Verb>
@@ -53,6 +56,7 @@ fn verb_of(word: &str) -> Option<Verb>
         "list" => Some(Verb::List),
         "check" => Some(Verb::Check),
         "cut" => Some(Verb::Cut),
+        "recover" => Some(Verb::Recover),
         _ => None,
     }
 }
@@ -74,7 +78,7 @@ fn options_of(verb: Verb) -> &'static [Name]
 {
     match verb {
         Verb::DecodeRaw | Verb::DecodeWav => &[Name::Presentation, Name::Bits],
-        Verb::Extract | Verb::Check => &[Name::Presentation],
+        Verb::Extract | Verb::Check | Verb::Recover => &[Name::Presentation],
         Verb::List => &[],
         Verb::Cut => &[Name::First, Name::Count],
     }
@@ -203,6 +207,10 @@ fn command_of(words: &[String], verb: Verb) -> Option<Command>
             let first = number_given(Name::First, words)?;
             let count = number_given(Name::Count, words)?;
             Some(Command::Cut { first, count })
+        }
+        Verb::Recover => {
+            let presentation = presentation_given(words)?;
+            Some(Command::Recover { presentation })
         }
     }
 }

@@ -5,6 +5,8 @@ use Rattle.mlp_cut.specs.Cutting.{cutting}
 use Rattle.mlp_cut.proofs.CutterLaws.{cutting_is}
 use Rattle.mlp_extract.specs.Extracting.{extracting}
 use Rattle.mlp_extract.proofs.ExtractFollows.{extracting_is}
+use Rattle.mlp_recover.proofs.Pieces.{one_recovery}
+use Rattle.mlp_recover.proofs.SomePieces.{some_recovery}
 use Rattle.mlp_sessions.proofs.ListFollows.{list_has_one}
 use Rattle.mlp_sessions.proofs.PlayFollows.{decode_has_one}
 use Rattle.mlp_wave.proofs.OneFile.{has_one_file}
@@ -27,3 +29,6 @@ returns-clause-check c = λ k all. has_one_answer (checking k) (checking_is k) a
 
 pub returns-clause-cut : goal.returns-clause-cut
 returns-clause-cut c = λ f n all. has_one_answer (cutting f n) (cutting_is f n) all
+
+pub returns-clause-recover : goal.returns-clause-recover
+returns-clause-recover c = λ k all. record { some = some_recovery k all; one = one_recovery k all }

@@ -5,7 +5,7 @@ use Rattle.mlp_answers.specs.Works.{Works}
 use Rattle.mlp_check.specs.Checking.{checking}
 use Rattle.mlp_check.specs.Runs.{Checks}
 use Rattle.mlp_check.proofs.CheckFollows.{check_works}
-use Rattle.mlp_tool.specs.Run.{end_of}
+use Rattle.mlp_wave.specs.Failures.{end_of}
 use Rattle.mlp_tool.proofs.top.check.Goals as goal
 
 -- what the work did is what a run of the command did
