@@ -1,6 +1,10 @@
 -- Rows in order, one step more.
-use Rattle.std.proofs.Common.{◌≡◌, ℕ, suc, ◌+◌, ◌<◌, List, [], ◌∷◌, ◌++◌, length, drop, get_or, ℤ, pos, arith, refl, sym, ◌∙◌, ap, replicate, Bool, Option}
+use Rattle.std.specs.Prelude.{All, false}
+use Rattle.std.proofs.Common.{◌≡◌, ℕ, suc, ◌+◌, ◌<◌, ◌≤◌, ◌^◌, List, [], ◌∷◌, ◌++◌, length, drop, get_or, ℤ, pos, arith, refl, sym, ◌∙◌, ap, inl, inr, max, replicate, map, Bool, Option}
+use Rattle.std.proofs.Math.Nat.{zero-div}
 use Rattle.std.proofs.Math.Seq.{drop-cons}
+use Rattle.std.proofs.lemmas.Bool.{cases_lt}
+use Rattle.std.proofs.lemmas.List.{get_or_default}
 use Rattle.mlp_syntax.specs.declared.params.MatrixRow.{MatrixRow}
 use Rattle.mlp_matrix.specs.Matrix.{weights_of, weights, weighted, step_of, row_applied, has_bit, applied_from, applied_each_from, weighted_each}
 use Rattle.mlp_matrix.proofs.Weights.{weighted-zeros}
@@ -33,6 +37,29 @@ each_zeros ws n dest step i [] (frame ∷ frames) = refl
 each_zeros ws n dest step i (bits ∷ bypass) (frame ∷ frames) =
     ap (λ x. x ∷ weighted_each (ws ++ replicate n (pos 0)) dest step i bypass frames) (weighted-zeros ws n dest step (has_bit bits i) frame)
     ∙ ap (λ ys. weighted ws dest step (has_bit bits i) frame ∷ ys) (each_zeros ws n dest step i bypass frames)
+
+-- one value more below the greatest
+pub one_below : (xs : List ℕ) (i m n : ℕ) → i < length xs → n ≡ max (get_or xs i 0) m → ((k d : ℕ) → k < i → get_or xs k d ≤ m) → (k d : ℕ) → k < i + 1 → get_or xs k d ≤ n
+one_below xs i m n lt e h k d here = elim (cases_lt k i) [
+  | inl less ↦ omega (arith, e, h k d less)
+  | inr same ↦
+      let at : k ≡ i = omega (arith, same, here) in
+      rw (at, get_or_default xs i d 0 lt) (omega (arith, e))
+]
+
+-- no bit of 0 is set
+clear_bit : (bits i : ℕ) → bits ≡ 0 → has_bit bits i ≡ false
+clear_bit bits i e = rw (e, zero-div (2 ^ i)) refl
+
+-- frames whose bits are clear have no bypassed bit
+pub each_clear : (ws : List ℤ) (dest step i : ℕ) (bypass : List ℕ) (frames : List (List ℤ)) → All (λ bits. bits ≤ 0) bypass → length bypass ≡ length frames →
+    map (weighted ws dest step false) frames ≡ weighted_each ws dest step i bypass frames
+each_clear ws dest step i [] [] h e = refl
+each_clear ws dest step i [] (frame ∷ frames) h e = absurd (omega (arith, e))
+each_clear ws dest step i (bits ∷ bypass) [] h e = refl
+each_clear ws dest step i (bits ∷ bypass) (frame ∷ frames) h e =
+    ap (λ b. weighted ws dest step b frame ∷ map (weighted ws dest step false) frames) (sym (clear_bit bits i (let z : bits ≤ 0 = h 0 0 (omega arith) in omega (arith, z))))
+    ∙ ap (λ ys. weighted ws dest step (has_bit bits i) frame ∷ ys) (each_clear ws dest step i bypass frames (λ k d lt. h (suc k) d (omega (arith, lt))) (omega (arith, e)))
 
 -- prepared weights make of many frames what the row makes
 pub each_prepared : (row : MatrixRow) (ws : List ℤ) (cs : List (Option ℤ)) (n m dest step i : ℕ) (bypass : List ℕ) (frames : List (List ℤ)) →

@@ -1,9 +1,9 @@
 //! Rows in order, over one frame and over many.
 
-ghost use Rattle.std.specs.Prelude.{◌≡◌, ◌<◌, ◌≤◌, ◌==◌, ◌/◌, ◌%◌, ◌^◌, length, All};
+ghost use Rattle.std.specs.Prelude.{◌≡◌, ◌<◌, ◌≤◌, ◌==◌, ◌/◌, ◌%◌, ◌^◌, length, map, false, All};
 ghost use Rattle.mlp_predict.specs.Prediction.{IsCoefficient};
 ghost use Rattle.mlp_matrix.specs.Front.{AreUsed};
-ghost use Rattle.mlp_matrix.specs.Matrix.{applied, applied_each, weights, weighted_each, has_bit, IsRow, AreRows};
+ghost use Rattle.mlp_matrix.specs.Matrix.{applied, applied_each, weights, weighted, weighted_each, has_bit, IsRow, AreRows};
 
 use crate::row::{put_weighted, weights};
 use mlp_syntax::MatrixRow;
@@ -31,6 +31,35 @@ pub fn apply(rows: &[MatrixRow], steps: &[u8], channels: u8, frame: &mut [i32; 1
     }
 }
 
+/// The greatest of these, 0 where no bit is set in any.
+fn greatest_of(bypass: &[u8]) -> u8
+    ensures { All (λ bits. bits ≤ result) bypass.now }
+{
+    let mut greatest = 0;
+    for i in 0..bypass.len() {
+        greatest = bypass[i].max(greatest);
+    }
+    greatest
+}
+
+/// Puts what `M` weights make of each frame at its destination, without a bypassed bit.
+fn put_each_clear<const M: usize>(
+    weights: &[i32; M],
+    dest: usize,
+    step: u8,
+    frames: &mut [[i32; 10]],
+)
+    requires few { M ≤ 10 }
+    requires small { All IsCoefficient weights.now }
+    requires dest { dest < 10 }
+    requires step { step < 16 }
+    ensures { frames.new ≡ map (weighted weights.now dest step false) frames.old }
+{
+    for i in 0..frames.len() {
+        put_weighted(weights, dest, step, false, &mut frames[i]);
+    }
+}
+
 /// Puts what `M` weights of the row at place `index` make of each frame at its destination.
 fn put_each<const M: usize>(
     weights: &[i32; M],
@@ -48,6 +77,11 @@ fn put_each<const M: usize>(
     requires bits { length bypass.now ≡ length frames.old }
     ensures { frames.new ≡ weighted_each weights.now dest step index bypass.now frames.old }
 {
+    let bits = greatest_of(bypass);
+    if bits == 0 {
+        put_each_clear(weights, dest, step, frames);
+        return;
+    }
     for i in 0..frames.len() {
         let bit = has_bit(bypass[i], index);
         put_weighted(weights, dest, step, bit, &mut frames[i]);
