@@ -17,6 +17,7 @@ use Rattle.mlp_check.specs.Runs.{Checks}
 use Rattle.mlp_cut.specs.Cutting.{cutting}
 use Rattle.mlp_editing.specs.Mended.{Mended}
 use Rattle.mlp_extract.specs.Extracting.{extracting}
+use Rattle.mlp_retime.specs.Runs.{Retimes}
 use Rattle.mlp_sessions.specs.Listing.{listing}
 use Rattle.mlp_sessions.specs.Playing.{playing}
 use Rattle.mlp_wave.specs.Failures.{end_of}
@@ -36,6 +37,7 @@ Does (Some command.List) input output end = Did listing input output end
 Does (Some (command.Check presentation)) input output end = Checks presentation input output end
 Does (Some (command.Cut first count)) input output end = Did (cutting first count) input output end
 Does (Some (command.Recover presentation)) input output end = Mended presentation input output end
+Does (Some command.Retime) input output end = Retimes input output end
 
 -- no more bytes were taken than one past the limit
 abbrev pub TakesFew : Side → Type 0

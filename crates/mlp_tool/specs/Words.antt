@@ -19,6 +19,7 @@ verb_of word =
     else if bytes_eq word (codes "check") then Some verb.Check
     else if bytes_eq word (codes "cut") then Some verb.Cut
     else if bytes_eq word (codes "recover") then Some verb.Recover
+    else if bytes_eq word (codes "retime") then Some verb.Retime
     else None
 
 abbrev pub word_of : Name → List ℕ
@@ -35,6 +36,7 @@ options_of verb.List = []
 options_of verb.Check = Presentation ∷ []
 options_of verb.Cut = First ∷ Count ∷ []
 options_of verb.Recover = Presentation ∷ []
+options_of verb.Retime = []
 
 -- the option that a word names, among these
 abbrev pub option_of : List Name → List ℕ → Option Name
@@ -105,6 +107,7 @@ command_of words verb.List = Some command.List
 command_of words verb.Check = by_one command.Check (presentation_given words)
 command_of words verb.Cut = by_two command.Cut (number_given First words) (number_given Count words)
 command_of words verb.Recover = by_one command.Recover (presentation_given words)
+command_of words verb.Retime = Some command.Retime
 
 abbrev pub with_options : List (List ℕ) → Verb → Option Command
 with_options words verb = if are_options (options_of verb) words then command_of words verb else None
@@ -124,6 +127,7 @@ presentation_in (Some command.List) = 0
 presentation_in (Some (command.Check presentation)) = presentation
 presentation_in (Some (command.Cut first count)) = 0
 presentation_in (Some (command.Recover presentation)) = presentation
+presentation_in (Some command.Retime) = 0
 
 -- the bits of a sample in what a command writes
 abbrev pub bits_in : Option Command → ℕ

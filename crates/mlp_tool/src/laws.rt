@@ -5,6 +5,7 @@ ghost use Rattle.mlp_check.specs.Checking.{checking};
 ghost use Rattle.mlp_cut.specs.Cutting.{cutting};
 ghost use Rattle.mlp_extract.specs.Extracting.{extracting};
 ghost use Rattle.mlp_recover.specs.Laws.{HasOneRecovery};
+ghost use Rattle.mlp_retime.specs.Retiming.{retiming};
 ghost use Rattle.mlp_sessions.specs.Listing.{listing};
 ghost use Rattle.mlp_sessions.specs.Playing.{playing};
 ghost use Rattle.mlp_wave.specs.Saved.{HasOneFile};
@@ -19,4 +20,5 @@ pub fn law_one_answer()
     ensures check { (k : ℕ) (all : List ℕ) → HasOneAnswer (checking k) all }
     ensures cut { (f c : ℕ) (all : List ℕ) → HasOneAnswer (cutting f c) all }
     ensures recover { (k : ℕ) (all : List ℕ) → HasOneRecovery k all }
+    ensures retime { (all : List ℕ) → HasOneAnswer retiming all }
 {}

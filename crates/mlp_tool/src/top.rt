@@ -7,6 +7,7 @@ ghost use Rattle.mlp_answers.specs.Works.{Works};
 ghost use Rattle.mlp_check.specs.Runs.{Checks};
 ghost use Rattle.mlp_cut.specs.Cutting.{cutting};
 ghost use Rattle.mlp_extract.specs.Extracting.{extracting};
+ghost use Rattle.mlp_retime.specs.Runs.{Retimes};
 ghost use Rattle.mlp_sessions.specs.Listing.{listing};
 ghost use Rattle.mlp_sessions.specs.Playing.{playing};
 ghost use Rattle.mlp_wave.specs.Failures.{end_of};
@@ -22,6 +23,7 @@ use mlp_cut::Cutter;
 use mlp_editing::recover_input;
 use mlp_extract::Extractor;
 use mlp_io::{Sink, Source, put_all};
+use mlp_retime::Retimer;
 use mlp_sessions::{Decode, List};
 use mlp_stream::{Stop, pump};
 use mlp_wave::decode_wave;
@@ -113,6 +115,21 @@ fn check<S: Source, K: Sink>(
     }
 }
 
+/// Retimes the stream.
+fn retime<S: Source, K: Sink>(alloc: Global, input: &mut S, output: &mut K) -> Result<(), Failure>
+    ensures retimes { let read = side S.left input.old input.new in
+        let written = side K.written output.old output.new in
+        Retimes read written result }
+    ensures few { TakesFew (side S.left input.old input.new) }
+    ensures read { IsCause (status_of result == 5) (S.faults input.old) (S.faults input.new) }
+    ensures write { IsCause (status_of result == 6) (K.faults output.old) (K.faults output.new) }
+{
+    match Retimer::open(alloc) {
+        Err(_) => Err(Failure::OutOfMemory),
+        Ok(mut session) => failure_of(pump(&mut session, 0, input, output)),
+    }
+}
+
 /// The end of a run, by that of the work on its input.
 fn failure_of(end: Result<(), Stop>) -> Result<(), Failure>
     ensures { result ≡ end_of end }
@@ -155,6 +172,7 @@ fn work<S: Source, K: Sink>(
         Some(Command::Recover { presentation }) => {
             recover_input(alloc, *presentation, input, output)
         }
+        Some(Command::Retime) => retime(alloc, input, output),
     }
 }
 
@@ -170,7 +188,7 @@ fn presentation_in(command: &Option<Command>) -> u8
     ensures { result ≡ presentation_in command.now }
 {
     match command {
-        None | Some(Command::List) | Some(Command::Cut { .. }) => 0,
+        None | Some(Command::List | Command::Cut { .. } | Command::Retime) => 0,
         Some(Command::DecodeRaw { presentation, .. }) => *presentation,
         Some(Command::DecodeWav { presentation, .. }) => *presentation,
         Some(Command::Extract { presentation }) => *presentation,
@@ -181,8 +199,8 @@ fn presentation_in(command: &Option<Command>) -> u8
 
 /// Runs the words over an input and an output, tells the line of the end to `errors`, and answers its status.
 ///
-/// `check` takes memory from `alloc` before it reads, `decode-wav` for the samples and `recover` for the input; no other
-/// command does. A run takes at most one byte more than 2^40 from the input.
+/// `check` and `retime` take memory from `alloc` before they read, `decode-wav` for the samples and `recover` for the input;
+/// no other command does. A run takes at most one byte more than 2^40 from the input.
 ///
 /// # Errors
 ///

@@ -16,6 +16,7 @@ pub enum Verb {
     Check,
     Cut,
     Recover,
+    Retime,
 }
 
 /// An option's name.
@@ -44,6 +45,8 @@ pub enum Command {
     Cut { first: u64, count: u64 },
     /// Write the samples of a presentation in those restart intervals that are intact.
     Recover { presentation: u8 },
+    /// Write the stream with the timings of the earliest schedule.
+    Retime,
 }
 
 fn verb_of(word: &str) -> Option<Verb>
@@ -57,6 +60,7 @@ fn verb_of(word: &str) -> Option<Verb>
         "check" => Some(Verb::Check),
         "cut" => Some(Verb::Cut),
         "recover" => Some(Verb::Recover),
+        "retime" => Some(Verb::Retime),
         _ => None,
     }
 }
@@ -79,7 +83,7 @@ fn options_of(verb: Verb) -> &'static [Name]
     match verb {
         Verb::DecodeRaw | Verb::DecodeWav => &[Name::Presentation, Name::Bits],
         Verb::Extract | Verb::Check | Verb::Recover => &[Name::Presentation],
-        Verb::List => &[],
+        Verb::List | Verb::Retime => &[],
         Verb::Cut => &[Name::First, Name::Count],
     }
 }
@@ -212,6 +216,7 @@ fn command_of(words: &[String], verb: Verb) -> Option<Command>
             let presentation = presentation_given(words)?;
             Some(Command::Recover { presentation })
         }
+        Verb::Retime => Some(Command::Retime),
     }
 }
 

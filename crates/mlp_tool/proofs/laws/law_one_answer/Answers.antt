@@ -7,6 +7,8 @@ use Rattle.mlp_extract.specs.Extracting.{extracting}
 use Rattle.mlp_extract.proofs.ExtractFollows.{extracting_is}
 use Rattle.mlp_recover.proofs.Pieces.{one_recovery}
 use Rattle.mlp_recover.proofs.SomePieces.{some_recovery}
+use Rattle.mlp_retime.specs.Retiming.{retiming}
+use Rattle.mlp_retime.proofs.RetimeFollows.{retiming_is}
 use Rattle.mlp_sessions.proofs.ListFollows.{list_has_one}
 use Rattle.mlp_sessions.proofs.PlayFollows.{decode_has_one}
 use Rattle.mlp_wave.proofs.OneFile.{has_one_file}
@@ -32,3 +34,6 @@ returns-clause-cut c = λ f n all. has_one_answer (cutting f n) (cutting_is f n)
 
 pub returns-clause-recover : goal.returns-clause-recover
 returns-clause-recover c = λ k all. record { some = some_recovery k all; one = one_recovery k all }
+
+pub returns-clause-retime : goal.returns-clause-retime
+returns-clause-retime c = λ all. has_one_answer retiming retiming_is all
