@@ -20,6 +20,8 @@ mod list;
 #[cfg(test)]
 mod memory;
 #[cfg(test)]
+mod recover;
+#[cfg(test)]
 mod runs;
 #[cfg(test)]
 mod streams;
