@@ -1,6 +1,6 @@
 //! The command `check`.
 use crate::runs::{Edge, WHOLE, run_over};
-use crate::streams::{ENDED, RAMPS, SILENT};
+use crate::streams::{EARLY, ENDED, RAMPS, SILENT};
 use std::test::Fail;
 
 const WORDS: &str = "check --presentation 0";
@@ -15,13 +15,9 @@ const SEVENTEEN: &str = "units 17\nframes 680\nchannels 2\nrate 48000\nrestarts 
 
 #[test]
 fn tells_what_streams_hold(rt: HostRuntime) -> Result<(), Fail> {
-    // the second unit comes one sample period earlier
-    let mut early = SILENT;
-    early[58] = 0xB0;
-    early[61] = 0x27;
     let cases: [(&[u8], &str); 4] = [
         (&SILENT, TIMED),
-        (&early, NOT_TIMED),
+        (&EARLY, NOT_TIMED),
         (&ENDED, ONE_FRAME),
         (&RAMPS, SEVENTEEN),
     ];

@@ -3,7 +3,7 @@ use crate::runs::{Edge, WHOLE, run_over};
 use crate::streams::{SILENT, raw_samples, raw_unit};
 use std::test::Fail;
 
-const COMMANDS: [&str; 7] = [
+const COMMANDS: [&str; 8] = [
     "decode-raw --presentation 0",
     "decode-wav --presentation 0",
     "extract --presentation 0",
@@ -11,6 +11,7 @@ const COMMANDS: [&str; 7] = [
     "check --presentation 0",
     "cut --first 0 --count 1",
     "recover --presentation 0",
+    "retime",
 ];
 
 /// The second read has the end of the stream, or the rest of the first unit.

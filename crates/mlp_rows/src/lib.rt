@@ -22,6 +22,8 @@ mod memory;
 #[cfg(test)]
 mod recover;
 #[cfg(test)]
+mod retime;
+#[cfg(test)]
 mod runs;
 #[cfg(test)]
 mod streams;
