@@ -1,0 +1,47 @@
+-- All segments of a unit have a place in it.
+use Rattle.std.proofs.Common.{◌≡◌, ℕ, ◌+◌, ◌*◌, ◌-◌, ◌/◌, ◌≤◌, Bool, true, false, List, map, refl, ap, subst, sym, ◌∙◌, arith}
+use Rattle.std.specs.Prelude.{◌==◌, nat_lt, nat_le, ◌&&◌, ◌||◌, not, if◌then◌else◌}
+use Rattle.std.proofs.lemmas.Bool.Decides.{nat_tests}
+use Rattle.mlp_syntax.specs.declared.major.Kind.{Kind}
+use Rattle.mlp_syntax.specs.declared.major.Kind.TheVariants.{Fbb, Fba}
+use Rattle.mlp_fifo.specs.Pace.{unit_of}
+use Rattle.mlp_fifo.proofs.Paces.{unit_most}
+use Rattle.mlp_fold.specs.declared.profile.Profile.{Profile}
+use Rattle.mlp_fold.specs.Profile.{has_channels, has_rate}
+use Rattle.mlp_fold.specs.Substreams.{substreams_of}
+use Rattle.mlp_encode.specs.Lawful.{segments_to, segments_most}
+use Rattle.mlp_encode.proofs.SyncAllowed.{Passes}
+
+eight_slow : (rate channels : ℕ) → has_rate rate channels ≡ true → channels ≡ 8 → unit_of rate ≤ 80
+unfolding unit_of
+eight_slow rate channels h e = grind (arith, nat_tests)
+
+-- 2, 6 or 8 channels
+data Count (n : ℕ) : Type 0 where
+  two : n ≡ 2 → Count n
+  six : n ≡ 6 → Count n
+  eight : n ≡ 8 → Count n
+
+count_of : (kind : Kind) (n : ℕ) → has_channels kind n ≡ true → Count n
+count_of kind n h = by (n == 2) (n == 6) (n == 8) refl refl refl
+  where
+    by : (a b c : Bool) → (n == 2) ≡ a → (n == 6) ≡ b → (n == 8) ≡ c → Count n
+    by true b c ea eb ec = two (grind (arith, nat_tests))
+    by false true c ea eb ec = six (grind (arith, nat_tests))
+    by false false true ea eb ec = eight (grind (arith, nat_tests))
+    by false false false ea eb ec = absurd (none kind h)
+      where
+        none : (k : Kind) → has_channels k n ≡ true → ⊥
+        none Fbb h = grind (arith, nat_tests)
+        none Fba h = grind (arith, nat_tests)
+
+pub segments_few : (p : Profile) → Passes p → segments_most p ≤ 8190
+segments_few p h = by (count_of p.kind p.channels h.channels)
+  where
+    so_many : (n : ℕ) → p.channels ≡ n → segments_most p ≡ segments_to p (substreams_of n)
+    so_many n e = ap (λ (m : ℕ). segments_to p (substreams_of m)) e
+
+    by : Count p.channels → segments_most p ≤ 8190
+    by (two e) = omega (arith, so_many 2 e, unit_most p.rate)
+    by (six e) = omega (arith, so_many 6 e, unit_most p.rate)
+    by (eight e) = omega (arith, so_many 8 e, eight_slow p.rate p.channels h.rate e)

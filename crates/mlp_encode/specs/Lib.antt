@@ -1,0 +1,9 @@
+pub mod Numbers
+pub mod Sync
+pub mod Coding
+pub mod Pushed
+pub mod Blocks
+pub mod Left
+pub mod Lawful
+pub mod Unit
+pub mod Sent

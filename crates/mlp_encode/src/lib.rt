@@ -1,0 +1,15 @@
+//! What is sent of PCM, unit by unit: the major sync, and of each substream a restart and a segment whose parameters and
+//! codes are the choice that costs least.
+#![tactic(auto)]
+
+mod blocks;
+mod coding;
+pub mod laws;
+mod numbers;
+mod segments;
+mod sync;
+mod unit;
+
+pub use segments::send_segment;
+pub use sync::sync_of;
+pub use unit::{Written, checks_behind, fill_up, restart_in, send_substream, terminator_of};
