@@ -1,24 +1,22 @@
 -- A block that is sent can be written where it stands.
-use Rattle.std.proofs.Common.{◌≡◌, ℕ, zero, suc, ◌+◌, ◌-◌, ◌<◌, ◌≤◌, Bool, true, false, cond, List, [], ◌∷◌, length, Option, Some, None, refl, sym, ap, ◌∙◌, subst, arith}
-use Rattle.std.specs.Prelude.{IsTrue, nat_le, not, ◌||◌, if◌then◌else◌, is_some, option_map}
+use Rattle.std.proofs.Common.{◌≡◌, ℕ, ◌+◌, ◌≤◌, Bool, true, false, List, length, Option, Some, None, refl, sym, ap, ◌∙◌, subst}
+use Rattle.std.specs.Prelude.{◌||◌, if◌then◌else◌, is_some, option_map}
 use Rattle.std.proofs.lemmas.Bool.{le-leb}
-use Rattle.mlp_syntax.specs.declared.fault.Field.TheVariants as rule
 use Rattle.mlp_syntax.specs.declared.params.Params.{Params}
 use Rattle.mlp_syntax.specs.declared.restart.Restart.{Restart}
 use Rattle.mlp_syntax.specs.declared.segment.BlockHead.{BlockHead}
 use Rattle.mlp_syntax.specs.declared.segment.FrameCode.{FrameCode}
 use Rattle.mlp_layout.specs.Layout.{Layout, number_of, seen, ruled, tested, part, made}
-use Rattle.mlp_layout.specs.Combined.{must, must_at, under, flag, chosen, present}
+use Rattle.mlp_layout.specs.Combined.{under, flag, chosen, present}
 use Rattle.mlp_layout.specs.Allowed.{Allowed}
 use Rattle.mlp_layout.proofs.Fitting.{flag_fits}
 use Rattle.mlp_params.specs.declared.state.State.{State}
-use Rattle.mlp_params.specs.InForce.{in_force}
 use Rattle.mlp_params.specs.RestartHeader.{restart}
 use Rattle.mlp_params.specs.Parameters.{params}
 use Rattle.mlp_residual.specs.Frames.{steps_fit, frames_of}
 use Rattle.mlp_substream.specs.declared.known.Place.{Place}
-use Rattle.mlp_substream.specs.Restarts.{flags, judged_restart, restart_rules}
-use Rattle.mlp_substream.specs.Blocks.{restarted, given, after_head, against, block_size_in, steps_fit_in, context_of, Block, behind_flags, head, block}
+use Rattle.mlp_substream.specs.Restarts.{flags, judged_restart}
+use Rattle.mlp_substream.specs.Blocks.{restarted, given, after_head, against, block_size_in, steps_fit_in, context_of, behind_flags, head, block}
 use Rattle.mlp_substream.specs.Segment.{unknown}
 use Rattle.mlp_params.specs.Applied.{applied}
 use Rattle.mlp_fold.specs.declared.profile.Profile.{Profile}

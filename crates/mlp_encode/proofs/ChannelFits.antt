@@ -1,5 +1,5 @@
 -- What is sent of a channel fits what is in force behind its parameters.
-use Rattle.std.proofs.Common.{◌≡◌, ℕ, ◌+◌, ◌-◌, ◌<◌, ◌≤◌, ℤ, pos, Bool, true, false, List, map, length, get_or, Option, Some, refl, sym, ap, ◌∙◌, subst, arith}
+use Rattle.std.proofs.Common.{◌≡◌, ℕ, ◌-◌, ◌<◌, ◌≤◌, ℤ, pos, Bool, false, List, map, length, get_or, Option, refl, sym, ap, ◌∙◌, subst, arith}
 use Rattle.std.specs.Prelude.{All}
 use Rattle.std.proofs.lemmas.List.{get_or-map}
 use Rattle.mlp_syntax.specs.declared.params.ChannelParams.{ChannelParams}
@@ -13,11 +13,9 @@ use Rattle.mlp_params.specs.States.{IsChannelState}
 use Rattle.mlp_predict.specs.Prediction.{Past}
 use Rattle.mlp_predict.specs.Filters.{filters_of}
 use Rattle.mlp_residual.specs.Frames.{code}
-use Rattle.mlp_residual.specs.declared.frames.ChannelCode.{ChannelCode}
 use Rattle.mlp_search.specs.declared.choice.Choice.{Choice}
 use Rattle.mlp_search.specs.Candidates.{residuals_for, past_for, past_behind}
 use Rattle.mlp_search.specs.Given.{given, given_by}
-use Rattle.mlp_search.specs.Cost.{cost_of}
 use Rattle.mlp_search.specs.Least.{chosen}
 use Rattle.mlp_search.proofs.ChosenLaws.{chosen_least}
 use Rattle.mlp_search.proofs.CandidateLaws.{HasCost, has_cost, ranges}

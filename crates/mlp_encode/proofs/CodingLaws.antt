@@ -1,14 +1,13 @@
 -- What is sent of a channel is what the search gives.
-use Rattle.std.proofs.Common.{◌≡◌, ℕ, zero, suc, ◌+◌, ◌-◌, ◌<◌, ◌≤◌, ℤ, pos, Bool, true, false, List, [], ◌∷◌, ◌++◌, take, drop, map, length, get_or, Option, Some, None, refl, sym, ap, ◌∙◌, subst, arith, append_assoc, inl, inr}
-use Rattle.std.specs.Prelude.{All, IfSome, IfNone, ◌==◌, ◌&&◌, ◌||◌, unwrap_or, if◌then◌else◌}
+use Rattle.std.proofs.Common.{◌≡◌, ℕ, zero, suc, ◌+◌, ◌-◌, ◌<◌, ℤ, pos, Bool, true, false, List, [], ◌∷◌, ◌++◌, take, drop, map, length, get_or, Option, Some, None, refl, sym, ap, ◌∙◌, arith, append_assoc, inl, inr}
+use Rattle.std.specs.Prelude.{IfSome, IfNone, ◌==◌, ◌&&◌, unwrap_or, if◌then◌else◌}
 use Rattle.std.specs.Ordering.{int_eq}
-use Rattle.std.specs.Option.{option_and_then, option_map}
+use Rattle.std.specs.Option.{option_and_then}
 use Rattle.std.proofs.Math.ListN.{set, replicate}
-use Rattle.std.proofs.lemmas.Bool.{and_parts, or_cases, eqb-true, or_right}
+use Rattle.std.proofs.lemmas.Bool.{and_parts, or_cases, eqb-true}
 use Rattle.std.proofs.lemmas.Bool.Decides.{Decides-int_eq}
 use Rattle.std.proofs.lemmas.List.{take_more_set, drop-set-lt, drop_more}
 use Rattle.mlp_syntax.specs.declared.params.ChannelParams.{ChannelParams}
-use Rattle.mlp_syntax.specs.declared.params.Filter.{Filter}
 use Rattle.mlp_syntax.specs.declared.segment.Code.{Code}
 use Rattle.mlp_syntax.specs.declared.segment.FrameCode.{FrameCode}
 use Rattle.mlp_params.specs.declared.state.ChannelState.{ChannelState}
@@ -23,14 +22,14 @@ use Rattle.mlp_residual.proofs.Counting.{same_code}
 use Rattle.mlp_search.specs.declared.pair.Pair.{Pair}
 use Rattle.mlp_search.specs.declared.choice.Choice.{Choice}
 use Rattle.mlp_search.specs.Candidates.{pair_of, past_for, residuals_for, past_behind}
-use Rattle.mlp_search.specs.Given.{IsPair, fir_stays, iir_stays, fir_given, iir_given, offset_given, with_zeros, codes_alike, all_stays, given, given_by}
+use Rattle.mlp_search.specs.Given.{fir_stays, iir_stays, fir_given, iir_given, offset_given, with_zeros, codes_alike, all_stays, given, given_by}
 use Rattle.mlp_search.specs.Cost.{code_for}
 use Rattle.mlp_search.specs.Least.{chosen}
 use Rattle.mlp_search.proofs.CodeLaws.{Judges, code_judged}
 use Rattle.mlp_search.proofs.FilterLaws.{no_state}
 use Rattle.mlp_search.proofs.GivenLaws.{pair_there, given_is_pair}
 use Rattle.mlp_search.proofs.States.{put_is}
-use Rattle.mlp_encode.specs.Coding.{code_by, code_of, past_with, residuals, codes_of, past_behind as left_behind, written, Sent, sent_by, channel_sent}
+use Rattle.mlp_encode.specs.Coding.{code_by, code_of, past_with, residuals, codes_of, past_behind as left_behind, Sent, sent_by, channel_sent}
 use Rattle.mlp_encode.specs.Pushed.{with_code, with_codes}
 
 -- ---- codes

@@ -1,5 +1,5 @@
 -- The frames of a unit, once they are mixed, can be sent.
-use Rattle.std.proofs.Common.{◌≡◌, ℕ, zero, suc, ◌+◌, ◌-◌, ◌*◌, ◌<◌, ◌≤◌, ℤ, Bool, true, false, List, map, length, get_or, refl, ap, ◌∙◌, arith}
+use Rattle.std.proofs.Common.{◌≡◌, ℕ, zero, suc, ◌<◌, ◌≤◌, ℤ, Bool, true, false, List, length, get_or, ◌∙◌, arith}
 use Rattle.std.specs.Prelude.{All, cond}
 use Rattle.mlp_matrix.specs.Matrix.{is_even}
 use Rattle.std.proofs.lemmas.List.{length-map}

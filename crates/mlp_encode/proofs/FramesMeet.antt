@@ -1,12 +1,12 @@
 -- There are no rules on frames but those that they fit.
-use Rattle.std.proofs.Common.{◌≡◌, ℕ, zero, suc, ◌+◌, Bool, true, false, List, [], ◌∷◌, ◌++◌, length, get_or, arith}
+use Rattle.std.proofs.Common.{◌≡◌, ℕ, zero, suc, Bool, true, false, List, [], ◌∷◌, ◌++◌, length, get_or, arith}
 use Rattle.mlp_syntax.specs.declared.segment.Code.{Code}
 use Rattle.mlp_syntax.specs.declared.segment.FrameCode.{FrameCode}
 use Rattle.mlp_layout.specs.Layout.{Layout, number_of, seen, part, made, item}
 use Rattle.mlp_layout.specs.Combined.{flag, chosen, series}
 use Rattle.mlp_books.specs.Books.{symbol_of, symbol_in}
 use Rattle.mlp_params.specs.declared.state.State.{State}
-use Rattle.mlp_residual.specs.Frames.{unpacked, bypass_bit, bypass_bits, code, code_at, codes_in, frame, coded_frames, coding_of, frames_of, no_code}
+use Rattle.mlp_residual.specs.Frames.{unpacked, bypass_bit, bypass_bits, code, code_at, frame, coded_frames, coding_of, frames_of, no_code}
 use Rattle.mlp_residual.specs.declared.frames.ChannelCode.{ChannelCode}
 use Rattle.mlp_residual.specs.declared.frames.Coding.{Coding}
 use Rattle.mlp_residual.proofs.FrameLaws.{series-length}

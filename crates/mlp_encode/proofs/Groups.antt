@@ -1,9 +1,9 @@
 -- Groups and lists of values that may be written.
-use Rattle.std.proofs.Common.{◌≡◌, ℕ, zero, suc, ◌+◌, ◌<◌, ◌≤◌, Bool, true, false, cond, List, [], ◌∷◌, drop, map, length, get_or, Option, Some, None, refl, sym, ap, ◌∙◌, subst, arith}
+use Rattle.std.proofs.Common.{◌≡◌, ℕ, zero, suc, ◌+◌, ◌<◌, Bool, true, false, cond, List, [], ◌∷◌, drop, map, length, get_or, Option, Some, None, refl, sym, subst, arith}
 use Rattle.std.specs.List.{range_with_len}
 use Rattle.std.proofs.lemmas.List.{drop_more, drop_all}
 use Rattle.mlp_layout.specs.Layout.{Layout, number_of, seen, part, made, item}
-use Rattle.mlp_layout.specs.Combined.{flag, chosen, present, group, times, each}
+use Rattle.mlp_layout.specs.Combined.{flag, chosen, present, group, each}
 use Rattle.mlp_layout.specs.Allowed.{Allowed}
 
 pub none_allowed : {A : Type 0} (l : Layout A) → Allowed (group true l) None

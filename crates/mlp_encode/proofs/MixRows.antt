@@ -1,5 +1,5 @@
 -- The rows and steps of the mixes can be written.
-use Rattle.std.proofs.Common.{◌≡◌, ℕ, zero, suc, ◌+◌, ◌-◌, ◌<◌, ◌≤◌, ◌^◌, ℤ, pos, neg_ℤ, ◌≤ℤ◌, ◌<ℤ◌, Bool, true, false, List, [], ◌∷◌, length, get_or, Option, Some, None, refl, sym, ap, ◌∙◌, subst, arith}
+use Rattle.std.proofs.Common.{◌≡◌, ℕ, zero, suc, ◌+◌, ◌<◌, ◌≤◌, ◌^◌, ℤ, pos, neg_ℤ, Bool, true, false, List, [], ◌∷◌, length, get_or, Option, Some, None, refl, sym, ap, ◌∙◌, arith}
 use Rattle.std.specs.Prelude.{◌==◌, nat_le, if◌then◌else◌}
 use Rattle.std.proofs.lemmas.Int.{ints}
 use Rattle.std.proofs.lemmas.Bool.{le-leb}
@@ -8,7 +8,7 @@ use Rattle.mlp_syntax.specs.declared.major.Kind.TheVariants.{Fbb, Fba}
 use Rattle.mlp_syntax.specs.declared.restart.Restart.{Restart}
 use Rattle.mlp_syntax.specs.declared.params.MatrixRow.{MatrixRow}
 use Rattle.mlp_syntax.specs.declared.fault.Field.TheVariants.{NoiseShift}
-use Rattle.mlp_layout.specs.Layout.{Layout, number_of, seen, ruled, part, made, item}
+use Rattle.mlp_layout.specs.Layout.{number_of, seen, ruled, part, made, item}
 use Rattle.mlp_layout.specs.Combined.{must, flag, signed_of, chosen, group, times, listed}
 use Rattle.mlp_layout.specs.Allowed.{Allowed}
 use Rattle.mlp_layout.proofs.Fitting.{flag_fits}

@@ -1,22 +1,20 @@
 -- A segment that is sent can be written.
-use Rattle.std.proofs.Common.{◌≡◌, ℕ, zero, suc, ◌+◌, ◌-◌, ◌*◌, ◌<◌, ◌≤◌, ◌^◌, Bool, true, false, List, [], ◌∷◌, ◌++◌, length, Option, Some, None, refl, sym, ap, ◌∙◌, subst, arith}
+use Rattle.std.proofs.Common.{◌≡◌, ℕ, suc, ◌<◌, ◌^◌, Bool, true, false, List, [], ◌∷◌, length, Option, Some, None, refl, sym, ap, ◌∙◌, subst, arith}
 use Rattle.std.specs.Prelude.{IfSome, ◌==◌, ◌||◌, is_some}
 use Rattle.std.proofs.lemmas.Bool.{eq-eqb}
 use Rattle.std.proofs.Math.Pow.{pow_pos}
 use Rattle.mlp_syntax.specs.declared.major.Kind.{Kind}
-use Rattle.mlp_syntax.specs.declared.major.Kind.TheVariants.{Fbb, Fba}
 use Rattle.mlp_syntax.specs.declared.fault.Field.{Field}
-use Rattle.mlp_syntax.specs.declared.fault.Field.TheVariants as rule
 use Rattle.mlp_syntax.specs.declared.segment.Segment.{Segment}
-use Rattle.mlp_layout.specs.Layout.{Layout, number_of, ruled, part, made, item, MeetsAs}
-use Rattle.mlp_layout.specs.Combined.{fixed, flag, chosen, up_to_last}
+use Rattle.mlp_layout.specs.Layout.{Layout, number_of, part, made, item, MeetsAs}
+use Rattle.mlp_layout.specs.Combined.{chosen, up_to_last}
 use Rattle.mlp_layout.specs.Tails.{part_tail, placed, ending, whole_text, judged_at_end, checked_first, chosen_whole}
 use Rattle.mlp_layout.specs.Allowed.{Allowed}
 use Rattle.mlp_layout.proofs.Fitting.{flag_fits}
 use Rattle.mlp_params.specs.declared.state.State.{State}
 use Rattle.mlp_substream.specs.declared.known.Place.{Place}
-use Rattle.mlp_substream.specs.Blocks.{Block, BlockContext, block, after_block, first_context}
-use Rattle.mlp_substream.specs.Segment.{nested, heads_of, codes_of, terminator, padding_width, end_fault, end_rules, most_blocks, blocks_from, segment_tail, segment_text, segment, unknown, IsAllowed}
+use Rattle.mlp_substream.specs.Blocks.{Block, first_context}
+use Rattle.mlp_substream.specs.Segment.{nested, heads_of, codes_of, terminator, end_fault, end_rules, most_blocks, blocks_from, segment_tail, segment_text, segment, unknown, IsAllowed}
 use Rattle.mlp_encode.proofs.FramesMeet.{flag_meets}
 
 -- ---- one block, and two

@@ -1,6 +1,6 @@
 -- The segments that are sent can be written where they stand, and leave what they should.
-use Rattle.std.proofs.Common.{◌≡◌, ℕ, zero, suc, ◌+◌, ◌-◌, ◌<◌, ◌≤◌, ◌^◌, Bool, true, false, List, [], ◌∷◌, ◌++◌, take, drop, length, Option, Some, None, refl, sym, ap, ◌∙◌, subst, arith}
-use Rattle.std.specs.Prelude.{IfSome, is_some}
+use Rattle.std.proofs.Common.{◌≡◌, ℕ, ◌+◌, ◌≤◌, Bool, true, false, List, [], ◌∷◌, ◌++◌, take, drop, length, Option, Some, None, refl, sym, ap, ◌∙◌, subst, arith}
+use Rattle.std.specs.Prelude.{is_some}
 use Rattle.std.proofs.lemmas.List.{length-append, length-take-le, length-drop}
 use Rattle.mlp_syntax.specs.declared.fault.Field.TheVariants as rule
 use Rattle.mlp_syntax.specs.declared.restart.Restart.{Restart}
@@ -8,9 +8,8 @@ use Rattle.mlp_layout.specs.Allowed.{Allowed}
 use Rattle.mlp_params.specs.declared.state.State.{State}
 use Rattle.mlp_params.specs.RestartHeader.{restart}
 use Rattle.mlp_predict.specs.Prediction.{Past}
-use Rattle.mlp_substream.specs.declared.known.Place.{Place}
 use Rattle.mlp_substream.specs.Blocks.{Block, block, after_block, after_head, force_after, first_context}
-use Rattle.mlp_substream.specs.Segment.{nested, heads_of, codes_of, terminator, segment, unknown, IsAllowed}
+use Rattle.mlp_substream.specs.Segment.{heads_of, codes_of, segment, unknown, IsAllowed}
 use Rattle.mlp_substream.proofs.SegmentLaws.{AllFramesFit, nested-flat}
 use Rattle.mlp_fifo.specs.Pace.{unit_of}
 use Rattle.mlp_fold.specs.declared.profile.Profile.{Profile}

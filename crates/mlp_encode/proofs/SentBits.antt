@@ -1,14 +1,14 @@
 -- The bypassed bits of a frame that is sent fit the rows of the mix.
-use Rattle.std.proofs.Common.{◌≡◌, ℕ, zero, suc, ◌+◌, ◌<◌, ◌^◌, Bool, true, false, List, [], ◌∷◌, map, length, refl, sym, ap, ◌∙◌, subst, arith, inl, inr, ◌⊎◌}
-use Rattle.std.specs.Prelude.{All, ◌==◌, ◌||◌, Ok, if◌then◌else◌}
+use Rattle.std.proofs.Common.{◌≡◌, ℕ, zero, suc, ◌<◌, ◌^◌, Bool, true, false, List, [], ◌∷◌, map, refl, sym, ap, ◌∙◌, subst, arith, inl, inr, ◌⊎◌}
+use Rattle.std.specs.Prelude.{All, ◌==◌, ◌||◌, if◌then◌else◌}
 use Rattle.std.specs.List.{list_any}
 use Rattle.std.proofs.lemmas.List.Elements.{All-cons}
 use Rattle.mlp_syntax.specs.declared.params.MatrixRow.{MatrixRow}
 use Rattle.mlp_layout.specs.Layout.{Sound, seen, made, item}
 use Rattle.mlp_layout.specs.Reading.{Read}
-use Rattle.mlp_layout.specs.Combined.{flag, chosen, series}
+use Rattle.mlp_layout.specs.Combined.{chosen, series}
 use Rattle.mlp_layout.proofs.Fitting.{flag_fits}
-use Rattle.mlp_residual.specs.Frames.{packed, unpacked, bypass_bits}
+use Rattle.mlp_residual.specs.Frames.{unpacked, bypass_bits}
 use Rattle.mlp_residual.proofs.FrameLaws.{bypass_bits_is, packed-unpacked}
 use Rattle.mlp_residual.proofs.RunLaws.{no_bypass}
 use Rattle.mlp_fold.specs.declared.profile.Mix.{Mix}
@@ -16,7 +16,7 @@ use Rattle.mlp_fold.specs.declared.profile.Mix.TheVariants.{Split, Fold, Bypass,
 use Rattle.mlp_fold.specs.declared.coding.CodedFrame.{CodedFrame}
 use Rattle.mlp_fold.specs.Rows.{row, left, right, on, rows_of}
 use Rattle.mlp_encode.specs.Blocks.{bypass_in}
-use Rattle.std.proofs.Common.{pos, neg_ℤ, Some}
+use Rattle.std.proofs.Common.{pos, neg_ℤ}
 
 -- ---- no row takes a bit, or four do
 

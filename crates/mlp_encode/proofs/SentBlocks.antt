@@ -1,17 +1,15 @@
 -- A block that is sent fits what is in force in it, and leaves what can be in force.
 use Rattle.std.proofs.Common.{◌≡◌, ℕ, zero, suc, ◌+◌, ◌-◌, ◌<◌, ◌≤◌, pos, Bool, true, false, List, [], ◌∷◌, ◌++◌, take, drop, map, length, get_or, replicate, Option, Some, None, refl, sym, ap, ◌∙◌, subst, arith}
-use Rattle.std.specs.Prelude.{All, ◌==◌, ◌&&◌, ◌||◌, not, nat_lt, unwrap_or, if◌then◌else◌}
+use Rattle.std.specs.Prelude.{◌==◌, ◌&&◌, not, nat_lt, unwrap_or, if◌then◌else◌}
 use Rattle.std.specs.List.{range_with_len, list_any}
 use Rattle.std.proofs.lemmas.Bool.{eqb-true, lt-ltb, ne_eqb}
-use Rattle.std.proofs.lemmas.List.{length-take-le, length-map, get_or-map}
+use Rattle.std.proofs.lemmas.List.{length-take-le, length-map}
 use Rattle.std.proofs.lemmas.List.FromFn.{length-map-range_with_len, get_or-map-range_with_len}
 use Rattle.std.proofs.lemmas.Simd.{map-map}
-use Rattle.arrayvec.specs.ArrayVec.{ArrayVec}
 use Rattle.mlp_syntax.specs.declared.params.ChannelParams.{ChannelParams}
 use Rattle.mlp_syntax.specs.declared.params.MatrixRow.{MatrixRow}
 use Rattle.mlp_syntax.specs.declared.params.Params.{Params}
 use Rattle.mlp_syntax.specs.declared.segment.Code.{Code}
-use Rattle.mlp_syntax.specs.declared.segment.FrameCode.{FrameCode}
 use Rattle.mlp_layout.specs.Layout.{part, made}
 use Rattle.mlp_layout.specs.Combined.{series}
 use Rattle.mlp_params.specs.declared.state.ChannelState.{ChannelState}
@@ -29,9 +27,9 @@ use Rattle.mlp_fold.specs.declared.coding.CodedFrame.{CodedFrame}
 use Rattle.mlp_fold.specs.Rows.{rows_of, steps_of}
 use Rattle.mlp_fold.specs.Substreams.{first_channel, last_channel}
 use Rattle.mlp_encode.specs.Numbers.{low_zeros}
-use Rattle.mlp_encode.specs.Coding.{Sent, nothing, column, channel_sent}
-use Rattle.mlp_encode.specs.Blocks.{Force, channel_in, sent_in, rows_with, steps_with, params_of, bypass_in, frame_code, codes_in}
-use Rattle.mlp_encode.specs.Lawful.{IsBegun, IsCodable, IsSendable, IsInForce}
+use Rattle.mlp_encode.specs.Coding.{Sent, nothing, column}
+use Rattle.mlp_encode.specs.Blocks.{Force, channel_in, sent_in, params_of, bypass_in, frame_code, codes_in}
+use Rattle.mlp_encode.specs.Lawful.{IsSendable, IsInForce}
 use Rattle.mlp_encode.proofs.SentChannels.{first_last}
 use Rattle.mlp_encode.proofs.SentStates.{or_parts, applied_over, items_over, codes_over, within_over}
 use Rattle.mlp_encode.proofs.SentParams.{params_allowed, steps_count}

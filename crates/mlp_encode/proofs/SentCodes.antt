@@ -1,11 +1,10 @@
 -- The codes of frames, channel by channel.
-use Rattle.std.proofs.Common.{◌≡◌, ℕ, zero, suc, ◌+◌, ◌-◌, ◌<◌, ◌≤◌, ℤ, Bool, true, false, List, [], ◌∷◌, ◌++◌, take, drop, map, length, get_or, replicate, Option, refl, sym, ap, ◌∙◌, subst, arith}
+use Rattle.std.proofs.Common.{◌≡◌, ℕ, zero, suc, ◌+◌, ◌<◌, ℤ, Bool, true, false, List, [], ◌∷◌, ◌++◌, drop, map, length, get_or, replicate, refl, sym, ap, ◌∙◌, arith}
 use Rattle.std.specs.Prelude.{All, if◌then◌else◌}
 use Rattle.std.specs.List.{list_any, range_with_len}
 use Rattle.std.proofs.lemmas.List.{drop_more, drop_all, map-append, length-map}
 use Rattle.std.proofs.lemmas.List.Elements.{All-map}
 use Rattle.arrayvec.specs.ArrayVec.{array_vec_len}
-use Rattle.mlp_syntax.specs.declared.params.ChannelParams.{ChannelParams}
 use Rattle.mlp_syntax.specs.declared.params.MatrixRow.{MatrixRow}
 use Rattle.mlp_syntax.specs.declared.segment.Code.{Code}
 use Rattle.mlp_syntax.specs.declared.segment.FrameCode.{FrameCode}
@@ -14,9 +13,9 @@ use Rattle.mlp_params.specs.Applied.{channel_applied}
 use Rattle.mlp_predict.specs.Filters.{filters_of}
 use Rattle.mlp_predict.specs.Prediction.{Filters, Past, residuals_of, past_after}
 use Rattle.mlp_fold.specs.declared.coding.CodedFrame.{CodedFrame}
-use Rattle.mlp_encode.specs.Coding.{Sent, nothing, sent_by, written, channel_sent, code_of, past_with, residuals, column}
+use Rattle.mlp_encode.specs.Coding.{Sent, nothing, written, channel_sent, code_of, past_with, residuals}
 use Rattle.mlp_encode.specs.Pushed.{with_code, with_codes, with_bits}
-use Rattle.mlp_encode.specs.Blocks.{bypass_in, frame_code, codes_in}
+use Rattle.mlp_encode.specs.Blocks.{frame_code, codes_in}
 
 pub map_equal : {A B : Type 0} (f g : A → B) (xs : List A) → ((x : A) → f x ≡ g x) → map f xs ≡ map g xs
 map_equal f g [] h = refl

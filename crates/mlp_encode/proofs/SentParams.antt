@@ -1,23 +1,19 @@
 -- The parameters of a block that is sent can be written.
-use Rattle.std.proofs.Common.{◌≡◌, ℕ, zero, suc, ◌+◌, ◌-◌, ◌<◌, ◌≤◌, Bool, true, false, List, [], ◌∷◌, drop, map, length, get_or, Option, Some, None, refl, sym, ap, ◌∙◌, subst, arith}
-use Rattle.std.specs.Prelude.{All, ◌==◌, ◌&&◌, not, nat_le, nat_lt, unwrap_or, if◌then◌else◌}
+use Rattle.std.proofs.Common.{◌≡◌, ℕ, ◌+◌, ◌-◌, ◌≤◌, Bool, true, false, List, drop, map, length, get_or, Option, Some, None, refl, sym, ap, subst, arith}
+use Rattle.std.specs.Prelude.{◌==◌, ◌&&◌, not, nat_le, nat_lt, unwrap_or, if◌then◌else◌}
 use Rattle.std.specs.List.{range_with_len, list_any}
-use Rattle.std.proofs.lemmas.Bool.{and_from, le-leb, eqb-true}
+use Rattle.std.proofs.lemmas.Bool.{and_from, le-leb}
 use Rattle.std.proofs.lemmas.Simd.{map-map}
-use Rattle.arrayvec.specs.ArrayVec.{ArrayVec}
 use Rattle.mlp_syntax.specs.declared.params.ChannelParams.{ChannelParams}
-use Rattle.mlp_syntax.specs.declared.params.MatrixRow.{MatrixRow}
 use Rattle.mlp_syntax.specs.declared.params.Params.{Params}
-use Rattle.mlp_layout.specs.Layout.{Layout, number_of, ruled, part, made}
+use Rattle.mlp_layout.specs.Layout.{number_of, ruled, part, made}
 use Rattle.mlp_layout.specs.Combined.{group, listed, each}
 use Rattle.mlp_layout.specs.Allowed.{Allowed}
 use Rattle.mlp_bits.specs.Bits.{bit}
-use Rattle.mlp_params.specs.declared.state.ChannelState.{ChannelState}
 use Rattle.mlp_params.specs.declared.state.State.{State}
 use Rattle.mlp_params.specs.InForce.{restarted_channel}
 use Rattle.mlp_params.specs.Matrices.{rows}
-use Rattle.mlp_params.specs.Parameters.{channel, block_size_of, output_shift, given_channels, groups, params}
-use Rattle.mlp_params.specs.States.{IsChannelState, IsState}
+use Rattle.mlp_params.specs.Parameters.{channel, block_size_of, output_shift, groups, params}
 use Rattle.mlp_predict.specs.Prediction.{Past}
 use Rattle.mlp_search.specs.Least.{chosen}
 use Rattle.mlp_search.proofs.ChosenLaws.{chosen_least}
@@ -33,7 +29,7 @@ use Rattle.mlp_fold.specs.Substreams.{first_channel, last_channel}
 use Rattle.mlp_encode.specs.Numbers.{low_zeros}
 use Rattle.mlp_encode.specs.Coding.{Sent, column, channel_sent}
 use Rattle.mlp_encode.specs.Blocks.{Force, channel_in, sent_in, size_with, rows_with, steps_with, params_of}
-use Rattle.mlp_encode.specs.Lawful.{IsBegun, IsCodable, IsSendable}
+use Rattle.mlp_encode.specs.Lawful.{IsSendable}
 use Rattle.mlp_encode.proofs.Groups.{none_allowed, some_allowed, holds, each_over}
 use Rattle.mlp_encode.proofs.SentChannels.{first_last}
 use Rattle.mlp_encode.proofs.MixRows.{steps_long, steps_listed, mix_rows}

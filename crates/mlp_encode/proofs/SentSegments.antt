@@ -1,7 +1,6 @@
 -- The blocks of a segment can be sent, one after the other.
-use Rattle.std.proofs.Common.{◌≡◌, ℕ, zero, suc, ◌+◌, ◌-◌, ◌<◌, ◌≤◌, ℤ, pos, Bool, true, false, List, [], ◌∷◌, ◌++◌, take, drop, map, length, get_or, replicate, Option, Some, None, refl, sym, ap, ◌∙◌, subst, arith}
+use Rattle.std.proofs.Common.{◌≡◌, ℕ, zero, suc, ◌+◌, ◌<◌, ◌≤◌, ℤ, Bool, true, false, List, [], ◌∷◌, ◌++◌, take, drop, length, get_or, replicate, Option, Some, None, refl, sym, ap, ◌∙◌, subst, arith}
 use Rattle.std.specs.Prelude.{All, is_some}
-use Rattle.std.specs.List.{range_with_len}
 use Rattle.std.proofs.lemmas.List.{length-take-le, length-drop, take-map, drop-map, append-nil}
 use Rattle.std.proofs.lemmas.List.Elements.{All-take, All-drop}
 use Rattle.std.proofs.lemmas.Bool.Decides.{nat_tests}
@@ -14,7 +13,7 @@ use Rattle.mlp_predict.specs.Prediction.{Past}
 use Rattle.mlp_params.specs.declared.state.ChannelState.{ChannelState}
 use Rattle.mlp_params.specs.declared.state.State.{State}
 use Rattle.mlp_params.specs.Filters.{order_of}
-use Rattle.mlp_params.specs.InForce.{in_force, restarted_channel, channel_in_force}
+use Rattle.mlp_params.specs.InForce.{in_force, restarted_channel}
 use Rattle.mlp_params.proofs.LawfulStates.{all_restarted, restart_is_state}
 use Rattle.mlp_channels.specs.Channels.{channel_at}
 use Rattle.mlp_fifo.specs.Pace.{unit_of}

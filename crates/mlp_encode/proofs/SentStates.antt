@@ -1,19 +1,16 @@
 -- What is in force behind the parameters of a block that is sent.
-use Rattle.std.proofs.Common.{◌≡◌, ℕ, zero, suc, ◌+◌, ◌-◌, ◌<◌, ◌≤◌, Bool, true, false, List, [], ◌∷◌, ◌++◌, take, drop, map, length, get_or, Option, Some, None, refl, sym, ap, ◌∙◌, subst, arith}
-use Rattle.std.specs.Prelude.{◌||◌, not, nat_le, ◌&&◌, is_some, unwrap_or, if◌then◌else◌}
+use Rattle.std.proofs.Common.{◌≡◌, ℕ, zero, suc, ◌+◌, ◌-◌, ◌<◌, ◌≤◌, Bool, true, false, List, [], ◌∷◌, ◌++◌, take, drop, map, length, get_or, Option, Some, None, refl, sym, ap, ◌∙◌, arith}
+use Rattle.std.specs.Prelude.{◌||◌, nat_le, is_some, unwrap_or, if◌then◌else◌}
 use Rattle.std.specs.List.{list_any, range_with_len}
 use Rattle.std.proofs.lemmas.Bool.{and_from, le-leb}
 use Rattle.std.proofs.lemmas.List.{drop_more, drop_all, take-append-drop}
-use Rattle.std.proofs.lemmas.Simd.{map-map}
 use Rattle.mlp_syntax.specs.declared.params.ChannelParams.{ChannelParams}
 use Rattle.mlp_syntax.specs.declared.params.Params.{Params}
 use Rattle.mlp_params.specs.declared.state.ChannelState.{ChannelState}
 use Rattle.mlp_params.specs.declared.state.State.{State}
 use Rattle.mlp_params.specs.Applied.{channel_applied, channels_applied, applied}
-use Rattle.mlp_params.specs.InForce.{restarted_channel}
 use Rattle.mlp_residual.specs.Frames.{channel_codes, steps_within}
 use Rattle.mlp_residual.specs.declared.frames.ChannelCode.{ChannelCode}
-use Rattle.mlp_substream.specs.Blocks.{given}
 use Rattle.mlp_encode.specs.Blocks.{gives, params_with, behind_params}
 
 pub or_parts : (a b : Bool) → (a || b) ≡ false → (a ≡ false) × (b ≡ false)

@@ -1,5 +1,5 @@
 -- A segment that was made can be written where it stands, and leaves what it should.
-use Rattle.std.proofs.Common.{◌≡◌, ℕ, ◌+◌, ◌≤◌, Bool, true, false, List, [], ◌∷◌, take, drop, length, Option, Some, None, refl, sym, ap, ◌∙◌, subst, arith}
+use Rattle.std.proofs.Common.{◌≡◌, ℕ, ◌≤◌, Bool, true, false, List, take, drop, length, Option, Some, None, refl, sym, ap, ◌∙◌, subst, arith}
 use Rattle.std.specs.Prelude.{is_some}
 use Rattle.std.specs.Option.{IsSomeAnd}
 use Rattle.mlp_syntax.specs.declared.restart.Restart.{Restart}
@@ -9,12 +9,11 @@ use Rattle.mlp_predict.specs.Prediction.{Past}
 use Rattle.mlp_substream.specs.declared.known.Place.{Place}
 use Rattle.mlp_substream.specs.Blocks.{IsPlace, force_after}
 use Rattle.mlp_substream.specs.Segment.{segment, unknown, IsAllowed}
-use Rattle.mlp_fifo.specs.Pace.{unit_of}
 use Rattle.mlp_fifo.proofs.Paces.{unit_most}
 use Rattle.mlp_fold.specs.declared.profile.Profile.{Profile}
 use Rattle.mlp_fold.specs.declared.coding.CodedFrame.{CodedFrame}
 use Rattle.mlp_encode.specs.Blocks.{Force, SentSegment, SentBlock, block_sent, restarted, restart_sent, later_sent, segment_sent}
-use Rattle.mlp_encode.specs.Lawful.{IsInForce, SendsSegment, IsSentSegment, IsEnd, place_in}
+use Rattle.mlp_encode.specs.Lawful.{SendsSegment, IsSentSegment, IsEnd, place_in}
 use Rattle.mlp_encode.proofs.SentChannels.{first_last}
 use Rattle.mlp_encode.proofs.SentSegments.{unit_least, part_all, part_first, part_later, later_sendable, fresh_sendable, behind_in_force}
 use Rattle.mlp_encode.proofs.SentAllowed.{later_allowed, later_leaves, restart_allowed, restart_leaves}

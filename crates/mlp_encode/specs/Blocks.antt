@@ -2,7 +2,6 @@
 use Rattle.std.specs.Prelude.{ℕ, ◌+◌, ◌==◌, nat_lt, ◌&&◌, ◌||◌, not, Bool, true, List, [], ◌∷◌, ◌++◌, length, map, take, drop, slice_index_or, Option, Some, None, is_some, if◌then◌else◌}
 use Rattle.std.specs.List.{flat_map, list_any, range_with_len}
 use Rattle.arrayvec.specs.ArrayVec.{ArrayVec}
-use Rattle.mlp_syntax.specs.declared.params.ChannelParams.{ChannelParams}
 use Rattle.mlp_syntax.specs.declared.params.MatrixRow.{MatrixRow}
 use Rattle.mlp_syntax.specs.declared.params.Params.{Params}
 use Rattle.mlp_syntax.specs.declared.restart.Restart.{Restart}
@@ -11,9 +10,8 @@ use Rattle.mlp_syntax.specs.declared.segment.FrameCode.{FrameCode}
 use Rattle.mlp_syntax.specs.declared.segment.Segment.{Segment}
 use Rattle.mlp_params.specs.declared.state.State.{State}
 use Rattle.mlp_params.specs.InForce.{in_force}
-use Rattle.mlp_params.specs.Applied.{applied}
 use Rattle.mlp_predict.specs.Prediction.{Past, zeros}
-use Rattle.mlp_channels.specs.Channels.{channel_at, step_at}
+use Rattle.mlp_channels.specs.Channels.{channel_at}
 use Rattle.mlp_channels.specs.Playing.{past_of_channel}
 use Rattle.mlp_substream.specs.Blocks.{given}
 use Rattle.mlp_fifo.specs.Pace.{unit_of}

@@ -1,5 +1,5 @@
 -- What is sent of a channel in a block: the least choice against what is in force and against its past.
-use Rattle.std.specs.Prelude.{ℕ, ◌-◌, Bool, List, map, slice_index_or, Option, unwrap_or, ℤ, pos}
+use Rattle.std.specs.Prelude.{ℕ, ◌-◌, Bool, List, map, Option, unwrap_or, ℤ}
 use Rattle.mlp_syntax.specs.declared.params.ChannelParams.{ChannelParams}
 use Rattle.mlp_syntax.specs.declared.segment.Code.{Code}
 use Rattle.mlp_params.specs.declared.state.ChannelState.{ChannelState}

@@ -1,5 +1,5 @@
 -- What the units sent so far leave to the next one.
-use Rattle.std.specs.Prelude.{ℕ, List, replicate, Result, Ok, Option, None}
+use Rattle.std.specs.Prelude.{ℕ, List, replicate, Result, Option, None}
 use Rattle.mlp_syntax.specs.declared.refusal.NoRoom.{NoRoom}
 use Rattle.mlp_params.specs.declared.state.State.{State}
 use Rattle.mlp_predict.specs.Prediction.{Past, zeros}

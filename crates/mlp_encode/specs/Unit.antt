@@ -1,5 +1,5 @@
 -- The next unit that is sent.
-use Rattle.std.specs.Prelude.{◌≡◌, ℕ, ◌+◌, ◌-◌, ◌*◌, ◌/◌, ◌%◌, ◌^◌, ◌<◌, ◌≤◌, ◌==◌, Bool, true, false, not, List, [], ◌∷◌, ◌++◌, length, map, replicate, take, drop, slice_index_or, Option, Some, None, Result, Ok, Err, ℤ, pos, All, IsTrue, if◌then◌else◌}
+use Rattle.std.specs.Prelude.{◌≡◌, ℕ, ◌+◌, ◌-◌, ◌/◌, ◌%◌, ◌^◌, ◌<◌, ◌≤◌, ◌==◌, Bool, true, false, not, List, [], ◌∷◌, ◌++◌, length, map, replicate, slice_index_or, Option, Some, None, Result, Ok, Err, ℤ, pos, All, if◌then◌else◌}
 use Rattle.std.specs.List.{range_with_len}
 use Rattle.mlp_syntax.specs.declared.major.Kind.{Kind}
 use Rattle.mlp_syntax.specs.declared.major.Kind.TheVariants.{Fbb, Fba}
@@ -25,7 +25,7 @@ use Rattle.mlp_fold.specs.Mix.{AreSamples, coded_frame, presented_of}
 use Rattle.mlp_fold.specs.Substreams.{substreams_of}
 use Rattle.mlp_encode.specs.Numbers.{has_sync, low_zeros}
 use Rattle.mlp_encode.specs.Sync.{sync_of, restart_of}
-use Rattle.mlp_encode.specs.Blocks.{Force, SentSegment, segment_sent}
+use Rattle.mlp_encode.specs.Blocks.{SentSegment, segment_sent}
 use Rattle.mlp_encode.specs.Left.{Going, Left}
 
 -- ---- the frames

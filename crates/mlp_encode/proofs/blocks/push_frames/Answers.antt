@@ -1,4 +1,4 @@
-use Rattle.std.proofs.Common.{◌≡◌, ◌+◌, ◌∷◌, ◌++◌, [], ◌∙◌, ap, sym, arith, ℕ, List, replicate, append_assoc}
+use Rattle.std.proofs.Common.{◌≡◌, ◌∷◌, ◌++◌, [], ◌∙◌, ap, arith, ℕ, List, replicate, append_assoc}
 use Rattle.std.proofs.lemmas.List.{replicate_more}
 use Rattle.mlp_syntax.specs.declared.segment.Code.{Code}
 use Rattle.mlp_syntax.specs.declared.segment.FrameCode.{FrameCode}

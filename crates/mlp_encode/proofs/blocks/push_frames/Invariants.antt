@@ -1,5 +1,4 @@
 use Rattle.std.proofs.Common.{◌≡◌, ◌++◌, replicate, []}
-use Rattle.mlp_syntax.specs.declared.segment.FrameCode.{FrameCode}
 use Rattle.mlp_encode.proofs.blocks.push_frames.Given as goal
 
 abbrev pub invariant-loop-i : goal.invariant-loop-i

@@ -7,7 +7,6 @@ use Rattle.mlp_syntax.specs.declared.segment.BlockHead.{BlockHead}
 use Rattle.mlp_syntax.specs.declared.segment.FrameCode.{FrameCode}
 use Rattle.mlp_syntax.specs.declared.segment.Segment.{Segment}
 use Rattle.mlp_params.specs.declared.state.State.{State}
-use Rattle.mlp_predict.specs.Prediction.{Past}
 use Rattle.mlp_encode.specs.Blocks.{Force, SentBlock, behind_params, given_in, sent_in, codes_in, pasts_with, block_sent, with_block}
 use Rattle.mlp_residual.proofs.FrameLaws.{written_back}
 use Rattle.mlp_encode.proofs.SentChannels.{codes_in_count}

@@ -1,4 +1,4 @@
-use Rattle.std.proofs.Common.{◌≡◌, ◌+◌, ◌-◌, ◌<◌, ◌≤◌, ◌∙◌, List, [], length, get_or, refl, sym, ap, subst, arith}
+use Rattle.std.proofs.Common.{◌<◌, ◌≤◌, ◌∙◌, List, [], length, get_or, refl, sym, ap, subst, arith}
 use Rattle.std.specs.Prelude.{All}
 use Rattle.std.proofs.lemmas.List.{get_or_default}
 use Rattle.arrayvec.specs.ArrayVec.{array_vec_len}
@@ -8,7 +8,7 @@ use Rattle.mlp_params.specs.InForce.{restarted_channel}
 use Rattle.mlp_predict.specs.Prediction.{zeros}
 use Rattle.mlp_fold.specs.Substreams.{first_channel, last_channel}
 use Rattle.mlp_encode.proofs.SentCodes.{codes_room}
-use Rattle.mlp_encode.proofs.SentChannels.{Sending, sent_below, count_below, codes_in_count, last_most, first_last, sending_none, sending_more, sending_all, past_there}
+use Rattle.mlp_encode.proofs.SentChannels.{sent_below, count_below, codes_in_count, last_most, sending_more, past_there}
 use Rattle.mlp_encode.proofs.blocks.send_channels.Goals as goal
 
 pub send_at-params-requires-clause-count : goal.send_at-params-requires-clause-count

@@ -1,4 +1,3 @@
-use Rattle.std.proofs.Common.{◌≡◌, ◌≤◌, ◌<◌, length}
 use Rattle.mlp_encode.proofs.SentChannels.{Sending}
 use Rattle.mlp_encode.proofs.blocks.send_channels.Given as goal
 

@@ -1,14 +1,10 @@
-use Rattle.std.proofs.Common.{◌≡◌, ◌∙◌, List, [], length, sym, ap, subst}
+use Rattle.std.proofs.Common.{◌∙◌, List, [], length, sym, ap, subst}
 use Rattle.mlp_syntax.specs.declared.params.Params.{Params}
 use Rattle.mlp_syntax.specs.declared.segment.FrameCode.{FrameCode}
 use Rattle.mlp_encode.proofs.SentChannels.{codes_in_count}
 use Rattle.mlp_layout.specs.Allowed.{Allowed}
 use Rattle.mlp_params.specs.Parameters.{params}
 use Rattle.mlp_encode.proofs.SentParams.{params_allowed}
-use Rattle.mlp_encode.proofs.SentStates.{given_applies}
-use Rattle.mlp_encode.proofs.SentBlocks.{frames_there, fits_steps}
-use Rattle.mlp_encode.proofs.BlockAllowed.{block_there}
-use Rattle.mlp_encode.proofs.SentAllowed.{later_allowed}
 use Rattle.mlp_encode.proofs.blocks.send_given.Goals as goal
 
 pub put_params-given-requires-clause-params : goal.put_params-given-requires-clause-params

@@ -1,4 +1,4 @@
-use Rattle.std.proofs.Common.{◌≡◌, ◌∙◌, ap, ℤ, Option, to_z, of_z, w16, w32}
+use Rattle.std.proofs.Common.{◌∙◌, ap, ℤ, Option, to_z, of_z, w16, w32}
 use Rattle.std.specs.Prelude.{unwrap_or}
 use Rattle.std.proofs.lemmas.Int.{to_z-of_z}
 use Rattle.mlp_syntax.specs.declared.segment.Code.{Code}

@@ -1,6 +1,5 @@
 use Rattle.std.proofs.Common.{◌≡◌, ◌-◌, ◌∙◌, ℤ, List, map, Option, Some, true, sym, ap}
 use Rattle.std.specs.Option.{option_map}
-use Rattle.mlp_predict.specs.Prediction.{Past}
 use Rattle.mlp_search.specs.declared.pair.Pair.{Pair}
 use Rattle.mlp_search.specs.Candidates.{residuals_for, past_behind}
 use Rattle.mlp_search.proofs.CandidateLaws.{has_cost}

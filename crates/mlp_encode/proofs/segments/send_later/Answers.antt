@@ -1,4 +1,4 @@
-use Rattle.std.proofs.Common.{◌≡◌, ◌∙◌, Option, Some, sym, ap, subst}
+use Rattle.std.proofs.Common.{Option, Some, sym, subst}
 use Rattle.std.specs.Prelude.{IfSome}
 use Rattle.mlp_params.specs.declared.state.State.{State}
 use Rattle.mlp_encode.specs.Blocks.{Force, later_sent}

@@ -1,4 +1,4 @@
-use Rattle.std.proofs.Common.{◌≡◌, ◌+◌, ◌-◌, ◌≤◌, ◌∙◌, ℕ, true, false, Option, Some, None, List, [], take, drop, length, refl, sym, ap, subst, arith}
+use Rattle.std.proofs.Common.{◌≡◌, ◌-◌, ◌∙◌, ℕ, true, Option, Some, List, [], take, drop, length, sym, ap, subst, arith}
 use Rattle.std.proofs.lemmas.List.{take_all, length-drop, length-take-le}
 use Rattle.std.specs.Prelude.{is_some}
 use Rattle.mlp_syntax.specs.declared.restart.Restart.{Restart}
@@ -9,7 +9,7 @@ use Rattle.mlp_predict.specs.Prediction.{Past}
 use Rattle.mlp_fifo.specs.Pace.{unit_of}
 use Rattle.mlp_fold.specs.declared.profile.Profile.{Profile}
 use Rattle.mlp_fold.specs.declared.coding.CodedFrame.{CodedFrame}
-use Rattle.mlp_encode.specs.Blocks.{Force, behind_params, given_in, sent_in, block_sent, with_block, restarted}
+use Rattle.mlp_encode.specs.Blocks.{Force, behind_params, given_in, sent_in, block_sent, with_block}
 use Rattle.mlp_encode.specs.Lawful.{IsSendable, IsInForce, SendsSegment}
 use Rattle.mlp_encode.proofs.SentChannels.{first_last, codes_in_count}
 use Rattle.mlp_encode.proofs.SentSegments.{Part, part_first, part_later, later_sendable, fresh_sendable, behind_in_force, restart_is}

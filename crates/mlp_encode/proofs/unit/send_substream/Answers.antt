@@ -1,11 +1,11 @@
-use Rattle.std.proofs.Common.{◌≡◌, ◌∙◌, ◌++◌, Bool, Option, ap, sym, subst, arith}
+use Rattle.std.proofs.Common.{◌∙◌, ◌++◌, Bool, Option, ap, sym, subst}
 use Rattle.std.specs.Prelude.{is_some}
 use Rattle.mlp_params.specs.declared.state.State.{State}
 use Rattle.mlp_substream.specs.declared.known.Place.{Place}
 use Rattle.mlp_substream.specs.Blocks.{IsPlace}
 use Rattle.mlp_bits.specs.Bits.{bits_of}
 use Rattle.mlp_substream.specs.Segment.{segment, unknown}
-use Rattle.mlp_encode.specs.Lawful.{place_in, segment_most}
+use Rattle.mlp_encode.specs.Lawful.{segment_most}
 use Rattle.mlp_encode.proofs.SentThere.{IsThere, place_there, sent_there}
 use Rattle.mlp_encode.proofs.SentLength.{short_there, ok_is, written_most, not_long}
 use Rattle.mlp_encode.proofs.unit.send_substream.Goals as goal
