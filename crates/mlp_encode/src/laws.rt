@@ -37,8 +37,8 @@ pub fn law_restart()
     ensures terminator { (p : Profile) (count : ℕ) (last : Bool) → IsEnd p (terminator_of p count last) }
 {}
 
-/// A segment that is sent can be written where it stands and meets the rules, with all that is known of it from elsewhere.
-/// It leaves what is in force behind it, against which the next unit can be sent.
+/// A segment that is sent can be written where it stands and meets the rules, with all that is known of it from
+/// elsewhere. It leaves what is in force behind it, against which the next unit can be sent.
 pub fn law_segment()
     ensures allowed { (p : Profile) (j : ℕ) (o : Option Restart) (state : Option State) (pasts : List Past)
         (frames : List CodedFrame) (t : Option ℕ) (known : Known) →
@@ -56,8 +56,8 @@ pub fn law_segment()
         IsSomeAnd (segment_sent j p o state pasts frames t) (λ s. IsInForce p j s.behind.state) }
 {}
 
-/// The bits of a segment that is sent are whole words, and are no more than its substream may have; the segments of a unit
-/// have at most 8190 bytes.
+/// The bits of a segment that is sent are whole words, and are no more than its substream may have; the segments of a
+/// unit have at most 8190 bytes.
 pub fn law_lengths()
     ensures words { (p : Profile) (j : ℕ) (o : Option Restart) (state : Option State) (pasts : List Past)
         (frames : List CodedFrame) (t : Option ℕ) → SendsSegment p j o state frames → IsEnd p t →

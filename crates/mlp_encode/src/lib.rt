@@ -1,5 +1,5 @@
-//! What is sent of PCM, unit by unit: the major sync, and of each substream a restart and a segment whose parameters and
-//! codes are the choice that costs least.
+//! What is sent of PCM, unit by unit: the major sync, and of each substream a restart and a segment whose parameters
+//! and codes are the choice that costs least.
 #![tactic(auto)]
 
 mod blocks;

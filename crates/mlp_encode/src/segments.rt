@@ -102,8 +102,8 @@ fn send_later(
     send_block(profile, substream, None, frames, state, pasts, segment);
 }
 
-/// Puts what is sent of a substream in a unit into `segment`. Behind it `state` is in force, and `pasts` are the pasts of all
-/// channels.
+/// Puts what is sent of a substream in a unit into `segment`. Behind it `state` is in force, and `pasts` are the latest
+/// outputs and differences of all channels.
 pub fn send_segment(
     profile: &Profile,
     substream: u8,

@@ -77,8 +77,8 @@ fn check_in(unit: u64, running: u32) -> u8
     if unit == 0 { 0 } else { folded(running) }
 }
 
-/// The restart of a substream, in a unit with a major sync, by the running checks of the presentations. `output` is when
-/// the unit is output, in sample periods.
+/// The restart of a substream, in a unit with a major sync, by the running checks of the presentations. `output` is
+/// when the unit is output, in sample periods.
 pub fn restart_in(
     profile: &Profile,
     unit: u64,
@@ -122,8 +122,8 @@ pub struct Written {
     pub bytes: UnitBytes,
 }
 
-/// Writes what is sent of a substream in a unit behind what was written of the substreams below. `sending` and `writing` are
-/// both what is in force in it, and `place` is where the segment stands.
+/// Writes what is sent of a substream in a unit behind what was written of the substreams below. `sending` and `writing`
+/// are both what is in force in it, and `place` is where the segment stands.
 pub fn send_substream(
     profile: &Profile,
     place: &Place,
