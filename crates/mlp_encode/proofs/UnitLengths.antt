@@ -35,13 +35,17 @@ count_of kind n h = by (n == 2) (n == 6) (n == 8) refl refl refl
         none Fbb h = grind (arith, nat_tests)
         none Fba h = grind (arith, nat_tests)
 
-pub segments_few : (p : Profile) → Passes p → segments_most p ≤ 8190
-segments_few p h = by (count_of p.kind p.channels h.channels)
+-- with a head, a major sync and a directory
+pub segments_fit : (p : Profile) → Passes p → segments_most p ≤ 8152
+segments_fit p h = by (count_of p.kind p.channels h.channels)
   where
     so_many : (n : ℕ) → p.channels ≡ n → segments_most p ≡ segments_to p (substreams_of n)
     so_many n e = ap (λ (m : ℕ). segments_to p (substreams_of m)) e
 
-    by : Count p.channels → segments_most p ≤ 8190
+    by : Count p.channels → segments_most p ≤ 8152
     by (two e) = omega (arith, so_many 2 e, unit_most p.rate)
     by (six e) = omega (arith, so_many 6 e, unit_most p.rate)
     by (eight e) = omega (arith, so_many 8 e, eight_slow p.rate p.channels h.rate e)
+
+pub segments_few : (p : Profile) → Passes p → segments_most p ≤ 8190
+segments_few p h = let few = segments_fit p h in omega (arith, few)
