@@ -29,8 +29,13 @@ fn put<K: Sink>(output: &mut K, bytes: &[u8]) -> Result<(), Stop>
     }
 }
 
-/// Writes the samples of presentation `k` of bytes that are a stream, in 24 bits.
-fn put_samples<K: Sink>(k: u8, bytes: &[u8], output: &mut K) -> Result<(), Stop>
+/// Writes the samples of presentation `k` of bytes that are a stream, in 24 bits. The session begins anew.
+fn put_samples<K: Sink>(
+    session: &mut Decode,
+    k: u8,
+    bytes: &[u8],
+    output: &mut K,
+) -> Result<(), Stop>
     requires exists { k ≤ 2 }
     requires few { length bytes.now ≤ limit }
     requires stream { (us : List Unit_of) × Stream (whole k) (start k) k (bits_of bytes.now) us }
@@ -38,13 +43,19 @@ fn put_samples<K: Sink>(k: u8, bytes: &[u8], output: &mut K) -> Result<(), Stop>
         → Puts (side K.written output.old output.new) (decoded k 24 us) result }
     ensures cause { IsCause (is_write_fault result) (K.faults output.old) (K.faults output.new) }
 {
-    let mut session = Decode::open(k, 24);
+    session.reset(k, 24);
     let mut input = SliceSource::new(bytes);
-    pump(&mut session, 0, &mut input, output)
+    pump(session, 0, &mut input, output)
 }
 
 /// Writes what is told of a kept span: its line and its samples.
-fn put_kept<K: Sink>(k: u8, bytes: &[u8], span: &Span, output: &mut K) -> Result<(), Stop>
+fn put_kept<K: Sink>(
+    session: &mut Decode,
+    k: u8,
+    bytes: &[u8],
+    span: &Span,
+    output: &mut K,
+) -> Result<(), Stop>
     requires exists { k ≤ 2 }
     requires few { length bytes.now ≤ limit }
     requires frames { HasFewFrames span.now }
@@ -55,13 +66,22 @@ fn put_kept<K: Sink>(k: u8, bytes: &[u8], span: &Span, output: &mut K) -> Result
 {
     let line = kept_line(span, sample_bytes(span));
     match put(output, line.as_slice()) {
-        Ok(()) => put_samples(k, &bytes[span.first as usize..span.past as usize], output),
+        Ok(()) => {
+            let kept = &bytes[span.first as usize..span.past as usize];
+            put_samples(session, k, kept, output)
+        }
         Err(stop) => Err(stop),
     }
 }
 
 /// Writes what is told of a span.
-fn put_span<K: Sink>(k: u8, bytes: &[u8], span: &Span, output: &mut K) -> Result<(), Stop>
+fn put_span<K: Sink>(
+    session: &mut Decode,
+    k: u8,
+    bytes: &[u8],
+    span: &Span,
+    output: &mut K,
+) -> Result<(), Stop>
     requires exists { k ≤ 2 }
     requires few { length bytes.now ≤ limit }
     requires frames { HasFewFrames span.now }
@@ -72,7 +92,7 @@ fn put_span<K: Sink>(k: u8, bytes: &[u8], span: &Span, output: &mut K) -> Result
 {
     let kept = span.kept;
     if kept {
-        return put_kept(k, bytes, span, output);
+        return put_kept(session, k, bytes, span, output);
     }
     put(output, lost_line(span).as_slice())
 }
@@ -87,9 +107,10 @@ pub fn put_spans<K: Sink>(k: u8, bytes: &[u8], spans: &Spans, output: &mut K) ->
         → Puts (side K.written output.old output.new) (all_told k ps) result }
     ensures cause { IsCause (is_write_fault result) (K.faults output.old) (K.faults output.new) }
 {
+    let mut session = Decode::open(k, 24);
     for i in 0..spans.len() {
         let span = spans.at(i);
-        if let Err(stop) = put_span(k, bytes, &span, output) {
+        if let Err(stop) = put_span(&mut session, k, bytes, &span, output) {
             return Err(stop);
         }
     }

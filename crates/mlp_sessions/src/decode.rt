@@ -79,6 +79,17 @@ impl Decode {
         }
     }
 
+    /// The same as `open`, in place.
+    pub fn reset(&mut self, presentation: u8, bits: u8)
+        requires exists { presentation ≤ 2 }
+        requires bits { (bits ≡ 16) ⊎ (bits ≡ 24) }
+        ensures { self.new ≡ player presentation bits }
+    {
+        self.decoder.reset(presentation);
+        self.bits = bits;
+        self.given = 0;
+    }
+
     /// The number of channels of the frames that come out, 0 to 8; 0 where no unit was taken.
     pub fn channels(&self) -> u8
         ensures { result ≡ places self.now.held.channels }
