@@ -30,3 +30,5 @@ pub mod SegmentLaws
 pub mod SyncAllowed
 pub mod UnitAllowed
 pub mod UnitLengths
+pub mod SentStarts
+pub mod SentUnits

@@ -1,6 +1,7 @@
 -- All segments of a unit have a place in it.
-use Rattle.std.proofs.Common.{◌≡◌, ℕ, ◌≤◌, Bool, true, false, refl, ap, arith}
-use Rattle.std.specs.Prelude.{◌==◌}
+use Rattle.std.proofs.Common.{◌≡◌, ℕ, zero, suc, ◌+◌, ◌<◌, ◌≤◌, Bool, true, false, refl, ap, arith}
+use Rattle.std.specs.Prelude.{◌==◌, nat_lt}
+use Rattle.std.proofs.lemmas.Bool.{ltb-true, ltb-false}
 use Rattle.std.proofs.lemmas.Bool.Decides.{nat_tests}
 use Rattle.mlp_syntax.specs.declared.major.Kind.{Kind}
 use Rattle.mlp_syntax.specs.declared.major.Kind.TheVariants.{Fbb, Fba}
@@ -9,7 +10,7 @@ use Rattle.mlp_fifo.proofs.Paces.{unit_most}
 use Rattle.mlp_fold.specs.declared.profile.Profile.{Profile}
 use Rattle.mlp_fold.specs.Profile.{has_channels, has_rate}
 use Rattle.mlp_fold.specs.Substreams.{substreams_of}
-use Rattle.mlp_encode.specs.Lawful.{segments_to, segments_most}
+use Rattle.mlp_encode.specs.Lawful.{segment_most, segments_to, segments_most}
 use Rattle.mlp_encode.proofs.SyncAllowed.{Passes}
 
 eight_slow : (rate channels : ℕ) → has_rate rate channels ≡ true → channels ≡ 8 → unit_of rate ≤ 80
@@ -49,3 +50,20 @@ segments_fit p h = by (count_of p.kind p.channels h.channels)
 
 pub segments_few : (p : Profile) → Passes p → segments_most p ≤ 8190
 segments_few p h = let few = segments_fit p h in omega (arith, few)
+
+-- one substream more
+pub segments_more : (p : Profile) (j : ℕ) → segments_to p (j + 1) ≡ segments_to p j + segment_most p j
+segments_more p j = let next : j + 1 ≡ suc j = omega arith in ap (λ (m : ℕ). segments_to p m) next
+
+segments_below : (p : Profile) (m j : ℕ) → j < m → segments_to p j + segment_most p j ≤ segments_to p m
+segments_below p zero j lt = absurd (omega (arith, lt))
+segments_below p (suc m) j lt = by (nat_lt j m) refl (λ below. segments_below p m j below)
+  where
+    by : (b : Bool) → nat_lt j m ≡ b → (j < m → segments_to p j + segment_most p j ≤ segments_to p m) → segments_to p j + segment_most p j ≤ segments_to p (suc m)
+    by true e less = omega (arith, less (ltb-true j m e))
+    by false e less =
+        let same : j ≡ m = omega (arith, ltb-false j m e, lt) in
+        omega (arith, ap (λ (k : ℕ). segments_to p k) same, ap (λ (k : ℕ). segment_most p k) same)
+
+pub segments_room : (p : Profile) → Passes p → (j : ℕ) → j < substreams_of p.channels → segments_to p j + segment_most p j ≤ 8190
+segments_room p h j lt = omega (arith, segments_below p (substreams_of p.channels) j lt, segments_few p h)

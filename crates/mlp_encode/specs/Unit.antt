@@ -1,5 +1,5 @@
 -- The next unit that is sent.
-use Rattle.std.specs.Prelude.{◌≡◌, ℕ, ◌+◌, ◌-◌, ◌/◌, ◌%◌, ◌^◌, ◌<◌, ◌≤◌, ◌==◌, Bool, true, false, not, List, [], ◌∷◌, ◌++◌, length, map, replicate, slice_index_or, Option, Some, None, Result, Ok, Err, ℤ, pos, All, if◌then◌else◌}
+use Rattle.std.specs.Prelude.{◌≡◌, ℕ, ◌+◌, ◌-◌, ◌/◌, ◌%◌, ◌^◌, ◌<◌, ◌≤◌, ◌==◌, Bool, true, false, not, List, [], ◌∷◌, ◌++◌, length, map, replicate, take, slice_index_or, Option, Some, None, Result, Ok, Err, ℤ, pos, All, if◌then◌else◌}
 use Rattle.std.specs.List.{range_with_len}
 use Rattle.mlp_syntax.specs.declared.major.Kind.{Kind}
 use Rattle.mlp_syntax.specs.declared.major.Kind.TheVariants.{Fbb, Fba}
@@ -27,6 +27,7 @@ use Rattle.mlp_encode.specs.Numbers.{has_sync, low_zeros}
 use Rattle.mlp_encode.specs.Sync.{sync_of, restart_of}
 use Rattle.mlp_encode.specs.Blocks.{SentSegment, segment_sent}
 use Rattle.mlp_encode.specs.Left.{Going, Left}
+use Rattle.mlp_encode.specs.Lawful.{place_in}
 
 -- ---- the frames
 
@@ -122,6 +123,23 @@ abbrev pub entries_from : Bool → ℕ → List (List ℕ) → List DirEntry
 entries_from sync start [] = []
 entries_from sync start (bytes ∷ more) =
     entry_at sync (start + length bytes / 2) ∷ entries_from sync (start + length bytes / 2) more
+
+-- by what is in force in three substreams, of which so many are there
+abbrev pub segments_in : Profile → ℕ → List ℕ → List CodedFrame → Option ℕ → List (Option State) → List Past → SentUnit
+segments_in p n checks frames t force pasts =
+    segments_from p (restart_in p n checks) frames t 0 (take (substreams_of p.channels) force) pasts
+
+abbrev pub bytes_in : Profile → ℕ → List ℕ → List CodedFrame → Option ℕ → List (Option State) → List Past → List (List ℕ)
+bytes_in p n checks frames t force pasts =
+    segments_bytes (place_in p (has_sync n)) (take (substreams_of p.channels) force) (segments_in p n checks frames t force pasts).segments
+
+-- what was sent of a unit in the substreams, where this was in force and these are the pasts before it: what is in force
+-- behind it, the pasts, the entries and the bytes
+pub record IsSentUnit (p : Profile) (n : ℕ) (checks : List ℕ) (frames : List CodedFrame) (t : Option ℕ) (old : List (Option State)) (old_pasts : List Past) (force : List (Option State)) (pasts : List Past) (entries : List DirEntry) (bytes : List ℕ) : Type 0 where
+  pub force_is : take (substreams_of p.channels) force ≡ (segments_in p n checks frames t old old_pasts).force
+  pub pasts_are : pasts ≡ (segments_in p n checks frames t old old_pasts).pasts
+  pub entries_are : entries ≡ entries_from (has_sync n) 0 (bytes_in p n checks frames t old old_pasts)
+  pub bytes_are : bytes ≡ joined (bytes_in p n checks frames t old old_pasts)
 
 abbrev pub major_of : Going → Option MajorSync
 major_of g = if has_sync g.units then Some (sync_of g.profile) else None

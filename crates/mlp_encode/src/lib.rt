@@ -12,4 +12,6 @@ mod unit;
 
 pub use segments::send_segment;
 pub use sync::sync_of;
-pub use unit::{Written, checks_behind, fill_up, restart_in, send_substream, terminator_of};
+pub use unit::{
+    Written, checks_behind, fill_up, restart_in, send_substream, send_substreams, terminator_of,
+};

@@ -1,5 +1,5 @@
 //! What is sent of a unit: its frames filled up, restarts, terminators and segments, and the running checks behind it.
-ghost use Rattle.std.specs.Prelude.{◌≡◌, ◌≤◌, ◌<◌, ◌+◌, ◌-◌, ◌/◌, ◌*◌, ◌%◌, ◌^◌, ◌++◌, ◌∷◌, [], ℕ, not, None, Some, true, false, All, map, take, drop, length, replicate, slice_index_or, pos, is_some, IfSome, if◌then◌else◌};
+ghost use Rattle.std.specs.Prelude.{Ok, ◌≡◌, ◌≤◌, ◌<◌, ◌+◌, ◌-◌, ◌/◌, ◌*◌, ◌%◌, ◌^◌, ◌++◌, ◌∷◌, [], ℕ, not, None, Some, true, false, All, map, take, drop, length, replicate, slice_index_or, pos, is_some, IfSome, if◌then◌else◌};
 ghost use Rattle.std.specs.List.{range_with_len};
 ghost use Rattle.std.specs.Int.{w32, cast_unsigned};
 ghost use Rattle.mlp_output.specs.Output.{check_from, check_of};
@@ -15,7 +15,10 @@ ghost use Rattle.std.specs.Option.{IsSomeAnd};
 ghost use Rattle.mlp_encode.specs.Numbers.{low_zeros};
 ghost use Rattle.mlp_encode.specs.Blocks.{segment_sent};
 ghost use Rattle.mlp_encode.specs.Lawful.{SendsSegment, IsSentSegment, IsEnd, place_in, segment_most};
-ghost use Rattle.mlp_encode.specs.Unit.{end_word, terminator_of, check_in, restart_in, entry_at, check_with};
+ghost use Rattle.mlp_fold.specs.Profile.{checked};
+ghost use Rattle.mlp_encode.specs.Numbers.{has_sync};
+ghost use Rattle.mlp_encode.specs.Lawful.{AreCodedBy, AreInForce};
+ghost use Rattle.mlp_encode.specs.Unit.{IsSentUnit, end_word, terminator_of, check_in, restart_in, entry_at, check_with};
 
 use crate::numbers::has_sync;
 use crate::segments::send_segment;
@@ -164,6 +167,56 @@ pub fn send_substream(
     );
     let _too_long = write_segment(place, writing, &out.segment, &mut out.bytes);
     out.entries.push(entry_at(place.major, out.bytes.len()));
+}
+
+/// How many bytes there are, each below 256.
+fn count_of(bytes: &[u8]) -> usize
+    ensures count { result ≡ length bytes.now }
+    ensures small { (i : ℕ) → slice_index_or bytes.now i 0 < 2 ^ 8 }
+{
+    bytes.len()
+}
+
+/// Writes the segments of the unit of this number, in place of what was written before. `output` is when the unit is
+/// output, in sample periods, `checks` are the running checks, and `sending` and `writing` are both what is in force in
+/// each substream.
+pub fn send_substreams(
+    profile: &Profile,
+    place: &Place,
+    unit: u64,
+    output: u64,
+    checks: &[u32; 3],
+    frames: &[CodedFrame],
+    terminator: Option<u16>,
+    sending: &mut [Option<State>; 3],
+    writing: &mut [Option<State>; 3],
+    pasts: &mut [Predictor<8, 4>; 8],
+    out: &mut Written,
+)
+    requires profile { checked profile.now ≡ Ok tt }
+    requires place { place.now ≡ place_in profile.now (has_sync unit) }
+    requires output { output ≡ out_of (pace_of profile.now.kind profile.now.rate) unit }
+    requires frames { AreCodedBy profile.now frames.now }
+    requires end { IsEnd profile.now terminator }
+    requires force { AreInForce profile.now unit (take (substreams_of profile.now.channels) sending.old) }
+    requires same { writing.old ≡ sending.old }
+    ensures sent { IsSentUnit profile.now unit checks.now frames.now terminator sending.old pasts.old
+        sending.new pasts.new out.new.entries.items out.new.bytes.items }
+    ensures same { writing.new ≡ sending.new }
+    ensures next { AreInForce profile.now (unit + 1) (take (substreams_of profile.now.channels) sending.new) }
+{
+    out.entries.clear();
+    out.bytes.clear();
+    for j in 0..mlp_fold::substreams(profile.channels) {
+        let at = usize::from(j);
+        let restart = restart_in(profile, unit, output, checks, j);
+        let made = &mut sending[at];
+        let written = &mut writing[at];
+        send_substream(
+            profile, place, j, restart, frames, terminator, made, written, pasts, out,
+        );
+        let _count = count_of(&out.bytes);
+    }
 }
 
 /// The 24 bits of a value, times 2 to its channel.
