@@ -24,7 +24,8 @@ pub fn law_clear()
         wrap (clear q (p +ℤ (x -ℤ clear q p))) ≡ x }
 {}
 
-/// A wrapped value is the only one of its range and remainder, and it doesn't matter when sums and products are wrapped.
+/// A wrapped value is the only one of its range and remainder,
+/// and it doesn't matter when sums and products are wrapped.
 pub fn law_wrap()
     ensures is { (v : ℤ) → IsResidue 32 v (wrap v) }
     ensures only { (v r : ℤ) → IsResidue 32 v r → wrap v ≡ r }

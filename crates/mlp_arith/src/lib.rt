@@ -1,4 +1,5 @@
-//! Whole numbers as the words of a codec: division by powers of two that rounds down, cleared low bits, and wrapped values.
+//! Whole numbers as the words of a codec: division by powers of two that rounds down, cleared low bits,
+//! and wrapped values.
 #![tactic(auto)]
 
 ghost use Rattle.std.specs.Prelude.{◌≡◌, ◌<◌, ◌≤◌, ◌^◌, pos, ◌*ℤ◌};

@@ -16,7 +16,8 @@ bit-whole bytes tail self i is lt =
     rw (← is) (a ∙ ap (λ t. t ++ tail) c ∙ ap (λ t. eqb (bit_and (get_or bytes (i / 8) 0 / 2 ^ (7 - i % 8)) 1) 1 ∷ t) (sym b))
 
 -- the bit stands behind the bytes
-pub bit-behind : (bytes : List ℕ) (pending count : ℕ) (self : List Bool) (i : ℕ) → bits_of bytes ++ bits count pending ≡ self → 8 * length bytes ≤ i → i < 8 * length bytes + count → count < 8 → drop i self ≡ eqb (bit_and (pending / 2 ^ (count - 1 - i % 8)) 1) 1 ∷ drop (i + 1) self
+pub bit-behind : (bytes : List ℕ) (pending count : ℕ) (self : List Bool) (i : ℕ) → bits_of bytes ++ bits count pending ≡ self → 8 * length bytes ≤ i
+    → i < 8 * length bytes + count → count < 8 → drop i self ≡ eqb (bit_and (pending / 2 ^ (count - 1 - i % 8)) 1) 1 ∷ drop (i + 1) self
 bit-behind bytes pending count self i is from to few =
     let o = i % 8 in
     let k = count - 1 - o in

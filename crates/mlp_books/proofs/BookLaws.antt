@@ -99,7 +99,8 @@ unfolding find_symbol
 find-place [] first text s h = absurd cc
 find-place (code ∷ codes) first text s h = go (begins code text) refl (λ e. find-place codes (suc first) text s e) h
   where
-    go : (b : Bool) → begins code text ≡ b → (find_symbol codes (suc first) text ≡ Some s → Place codes (suc first) text s) → cond b (Some first) (find_symbol codes (suc first) text) ≡ Some s → Place (code ∷ codes) first text s
+    go : (b : Bool) → begins code text ≡ b → (find_symbol codes (suc first) text ≡ Some s → Place codes (suc first) text s)
+        → cond b (Some first) (find_symbol codes (suc first) text) ≡ Some s → Place (code ∷ codes) first text s
     go true here later e = let same : first ≡ s = cc in record { place = 0; place_is = omega arith; within = omega arith; found = here }
     go false other later e = let f = later e in record { place = suc f.place; place_is = omega (arith, f.place_is); within = omega (arith, f.within); found = f.found }
 
@@ -108,7 +109,8 @@ unfolding find_symbol
 find-none [] first text i h lt = absurd (omega arith)
 find-none (code ∷ codes) first text i h lt = go (begins code text) refl (λ j e l. find-none codes (suc first) text j e l) h i lt
   where
-    go : (b : Bool) → begins code text ≡ b → ((j : ℕ) → find_symbol codes (suc first) text ≡ None → j < length codes → begins (code_of codes j) text ≡ false) → cond b (Some first) (find_symbol codes (suc first) text) ≡ None
+    go : (b : Bool) → begins code text ≡ b → ((j : ℕ) → find_symbol codes (suc first) text ≡ None → j < length codes → begins (code_of codes j) text ≡ false)
+        → cond b (Some first) (find_symbol codes (suc first) text) ≡ None
         → (i : ℕ) → i < length (code ∷ codes) → begins (code_of (code ∷ codes) i) text ≡ false
     go true here later e i lt = absurd cc
     go false other later e zero lt = other

@@ -53,11 +53,13 @@ IsNone nine = (nine ≡ 0) ⊎ (nine ≡ 128)
 
 -- no code begins another; two texts of nine bits begin with no code, and every other one does with one
 pub record IsBook (book : List (List Bool)) : Type 0 where
-  pub no_prefix : (s t : ℕ) → s < length book → t < length book → IsTrue (begins (code_of book s) (code_of book t)) → s ≡ t
+  pub no_prefix : (s t : ℕ) → s < length book → t < length book
+      → IsTrue (begins (code_of book s) (code_of book t)) → s ≡ t
   pub shortest : (s : ℕ) → s < length book → 1 ≤ length (code_of book s)
   pub longest : (s : ℕ) → s < length book → length (code_of book s) ≤ 9
   pub none : (nine s : ℕ) → IsNone nine → s < length book → begins (code_of book s) (bits 9 nine) ≡ false
-  pub some : (nine : ℕ) → nine < 2 ^ 9 → (IsNone nine → ⊥) → (s : ℕ) × (s < length book) × IsTrue (begins (code_of book s) (bits 9 nine))
+  pub some : (nine : ℕ) → nine < 2 ^ 9 → (IsNone nine → ⊥)
+      → (s : ℕ) × (s < length book) × IsTrue (begins (code_of book s) (bits 9 nine))
 
 -- ---- a symbol as a text
 
@@ -72,10 +74,12 @@ NoCode all place = Stands all place (bits 9 0) ⊎ Stands all place (bits 9 128)
 
 -- the bits end before a code ends, and before nine bits do
 abbrev pub IsCut : List (List Bool) → List Bool → ℕ → Type 0
-IsCut book all place = (length all < place + 9) × ((s : ℕ) → s < length book → Stands all place (code_of book s) → ⊥)
+IsCut book all place =
+    (length all < place + 9) × ((s : ℕ) → s < length book → Stands all place (code_of book s) → ⊥)
 
 abbrev pub symbol_or_fault : List (List Bool) → Option ℕ → List Bool → ℕ → Read ℕ
-symbol_or_fault book None all place = if nat_le (place + 9) (length all) then Err (broken rule.Code place) else Err (broken rule.SegmentShort place)
+symbol_or_fault book None all place = if nat_le (place + 9) (length all)
+    then Err (broken rule.Code place) else Err (broken rule.SegmentShort place)
 symbol_or_fault book (Some s) all place = Ok (s, place + length (code_of book s))
 
 -- a symbol by its code
@@ -84,7 +88,8 @@ symbol_of book = record {
   spelling = λ s. code_of book s;
   Fits = λ s. s < length book;
   Meets = λ s. Unit {0};
-  Fails = λ all place e. (NoCode all place × (e ≡ broken rule.Code place)) ⊎ (IsCut book all place × (e ≡ broken rule.SegmentShort place));
+  Fails = λ all place e. (NoCode all place × (e ≡ broken rule.Code place))
+      ⊎ (IsCut book all place × (e ≡ broken rule.SegmentShort place));
   read = λ all place. symbol_or_fault book (find_symbol book 0 (drop place all)) all place;
 }
 
@@ -129,7 +134,8 @@ all_below zero f = true
 all_below (suc n) f = f n && all_below n f
 
 unfoldable pub is_free : List (List Bool) → Bool
-is_free book = all_below (length book) (λ s. all_below (length book) (λ t. not (begins (code_of book s) (code_of book t)) || (s == t)))
+is_free book = all_below (length book)
+    (λ s. all_below (length book) (λ t. not (begins (code_of book s) (code_of book t)) || (s == t)))
 
 unfoldable pub is_wide : List (List Bool) → Bool
 is_wide book = all_below (length book) (λ s. nat_le 1 (length (code_of book s)) && nat_le (length (code_of book s)) 9)

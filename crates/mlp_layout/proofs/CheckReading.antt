@@ -24,13 +24,15 @@ module _ {A : Type 0} (w : ℕ) (check : List Bool → ℕ) (field : Field) (l :
       let len : m - p ≡ length (l.spelling x) = omega (arith, f.1) in
       rw len f.0.stands.text_is
 
-  pub check_ok : IsLayout l → p ≤ length all → (x : A) (m n q : ℕ) → l.read all p ≡ Ok (x, m) → (number_of w).read all m ≡ Ok (n, q) → n ≡ check (take (m - p) (drop p all)) → (checked w check field l).read all p ≡ Ok (x, q)
+  pub check_ok : IsLayout l → p ≤ length all → (x : A) (m n q : ℕ) → l.read all p ≡ Ok (x, m) → (number_of w).read all m ≡ Ok (n, q)
+      → n ≡ check (take (m - p) (drop p all)) → (checked w check field l).read all p ≡ Ok (x, q)
   unfolding checked fixed part ruled made
   check_ok is le x m n q h k same =
       let holds : eqb n (check (l.spelling x)) ≡ true = eq-eqb n _ (same ∙ ap check (text_of is le x m h)) in
       rw (h, k, holds) refl
 
-  pub check_fails : IsLayout l → p ≤ length all → (x : A) (m n q : ℕ) → l.read all p ≡ Ok (x, m) → (number_of w).read all m ≡ Ok (n, q) → n ≢ check (take (m - p) (drop p all)) → (checked w check field l).read all p ≡ Err (broken field m)
+  pub check_fails : IsLayout l → p ≤ length all → (x : A) (m n q : ℕ) → l.read all p ≡ Ok (x, m) → (number_of w).read all m ≡ Ok (n, q)
+      → n ≢ check (take (m - p) (drop p all)) → (checked w check field l).read all p ≡ Err (broken field m)
   unfolding checked fixed part ruled
   check_fails is le x m n q h k other =
       let holds : eqb n (check (l.spelling x)) ≡ false = ne_eqb n _ (λ e. other (e ∙ ap check (sym (text_of is le x m h)))) in

@@ -94,7 +94,8 @@ pub made_sets : {A R : Type 0} (of_record : R → A) (it : R) (a : A) → of_rec
 unfolding made
 made_sets of_record it a h r fits = ap of_record fits ∙ h
 
-pub part_sets : {A B R : Type 0} (of_record : R → A) (a : A) (first : Layout B) (of_other : R → B) (rest : B → Layout R) → ((b : B) (r : R) → (rest b).Fits r → of_record r ≡ a) → (r : R) → (part first of_other rest).Fits r → of_record r ≡ a
+pub part_sets : {A B R : Type 0} (of_record : R → A) (a : A) (first : Layout B) (of_other : R → B) (rest : B → Layout R)
+    → ((b : B) (r : R) → (rest b).Fits r → of_record r ≡ a) → (r : R) → (part first of_other rest).Fits r → of_record r ≡ a
 unfolding part
 part_sets of_record a first of_other rest h r fits = h (of_other r) r fits.1
 
@@ -106,7 +107,8 @@ pub tested_sets : {A R : Type 0} (of_record : R → A) (a : A) (field : Field) (
 unfolding tested
 tested_sets of_record a field holds l h r fits = h r fits
 
-pub chosen_sets : {A R : Type 0} (of_record : R → A) (a : A) (b : Bool) (l m : Layout R) → (b ≡ true → (r : R) → l.Fits r → of_record r ≡ a) → (b ≡ false → (r : R) → m.Fits r → of_record r ≡ a) → (r : R) → (chosen b l m).Fits r → of_record r ≡ a
+pub chosen_sets : {A R : Type 0} (of_record : R → A) (a : A) (b : Bool) (l m : Layout R) → (b ≡ true → (r : R) → l.Fits r → of_record r ≡ a)
+    → (b ≡ false → (r : R) → m.Fits r → of_record r ≡ a) → (r : R) → (chosen b l m).Fits r → of_record r ≡ a
 unfolding chosen
 chosen_sets of_record a true l m h k r fits = h refl r fits
 chosen_sets of_record a false l m h k r fits = k refl r fits
@@ -163,4 +165,31 @@ pub present_sets : {A R : Type 0} (of_record : R → Option A) (there : Bool) (l
 unfolding part
 present_sets of_record there l rest r fits = fits_there there l (of_record r) fits.0
 
-pub ruleset layouts = (number_of_is, seen_is, ruled_is, tested_is, whole_is, made_is, part_is, item_is, under_is, flag_is, signed_of_is, fixed_is, checked_is, chosen_is, present_is, group_is, times_is, series_is, made_sets, part_sets, fixed_sets, tested_sets, chosen_sets, times_sets, series_sets, present_sets)
+pub ruleset layouts = (
+  number_of_is,
+  seen_is,
+  ruled_is,
+  tested_is,
+  whole_is,
+  made_is,
+  part_is,
+  item_is,
+  under_is,
+  flag_is,
+  signed_of_is,
+  fixed_is,
+  checked_is,
+  chosen_is,
+  present_is,
+  group_is,
+  times_is,
+  series_is,
+  made_sets,
+  part_sets,
+  fixed_sets,
+  tested_sets,
+  chosen_sets,
+  times_sets,
+  series_sets,
+  present_sets,
+)

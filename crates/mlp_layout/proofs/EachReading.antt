@@ -15,7 +15,8 @@ module _ {S A : Type 0} (l : S → Layout A) (ss : List S) (i : ℕ) (s : S) (fr
   next : i < length ss → s ≡ get_or ss i s → drop i ss ≡ s ∷ drop (i + 1) ss
   next lt at = drop_more ss i s lt ∙ ap (λ (y : S). y ∷ drop (i + 1) ss) (sym at)
 
-  pub goes_on : (q : ℕ) (x : A) (total : Read (List A)) → i < length ss → s ≡ get_or ss i s → (l s).read all p ≡ Ok (x, q) → Continues l (drop i ss) front all p total → Continues l (drop (i + 1) ss) (front ++ x ∷ []) all q total
+  pub goes_on : (q : ℕ) (x : A) (total : Read (List A)) → i < length ss → s ≡ get_or ss i s → (l s).read all p ≡ Ok (x, q)
+      → Continues l (drop i ss) front all p total → Continues l (drop (i + 1) ss) (front ++ x ∷ []) all q total
   unfolding each item
   goes_on q x total lt at h so_far =
       let one : with_front front ((each l (drop i ss)).read all p) ≡ with_front (front ++ x ∷ []) ((each l (drop (i + 1) ss)).read all q) = rw (next lt at, h) (regroup front x ((each l (drop (i + 1) ss)).read all q)) in

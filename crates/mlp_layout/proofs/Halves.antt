@@ -16,7 +16,8 @@ two_halves xs long =
     let split : take 64 xs ≡ take 32 xs ++ take 32 (drop 32 xs) = take-add 32 32 xs in
     rw (split, number-append (take 32 xs) (take 32 (drop 32 xs)), len) refl
 
-pub wide_is : (a b c : Cursor) (h l : ℕ) → a.place ≤ length a.all → b ≡ moved 32 a → c ≡ moved 32 b → h ≡ number (take 32 (left a)) → l ≡ number (take 32 (left b)) → h < 2 ^ 32 → (length (left b) < 32 → false ≡ true)
+pub wide_is : (a b c : Cursor) (h l : ℕ) → a.place ≤ length a.all → b ≡ moved 32 a → c ≡ moved 32 b
+    → h ≡ number (take 32 (left a)) → l ≡ number (take 32 (left b)) → h < 2 ^ 32 → (length (left b) < 32 → false ≡ true)
     → ((number_of 64).read a.all a.place ≡ Ok (h * 2 ^ 32 % 2 ^ 64 + l, c.place)) × (c.all ≡ a.all) × (a.place ≤ c.place)
 unfolding number_of number_at
 wide_is a b c h l within b-is c-is h-is l-is small enough =
@@ -31,7 +32,8 @@ wide_is a b c h l within b-is c-is h-is l-is small enough =
       | inr ge ↦ omega (arith, ap (λ (t : List Bool). length t) b-left, length-drop 32 xs)
     ] in
     let room : leb (a.place + 64) (length a.all) ≡ true = le-leb _ _ (omega (arith, length-drop a.place a.all)) in
-    let value : number (take 64 xs) ≡ h * 2 ^ 32 % 2 ^ 64 + l = two_halves xs long ∙ rw (h-is, l-is, b-left) (sym (ap (λ (n : ℕ). n + number (take 32 (drop 32 xs))) (shl_whole (number (take 32 xs)) 32 32 64 (rw (← h-is) small) (omega arith)))) in
+    let value : number (take 64 xs) ≡ h * 2 ^ 32 % 2 ^ 64 + l = two_halves xs long
+    ∙ rw (h-is, l-is, b-left) (sym (ap (λ (n : ℕ). n + number (take 32 (drop 32 xs))) (shl_whole (number (take 32 xs)) 32 32 64 (rw (← h-is) small) (omega arith)))) in
     let end : a.place + 64 ≡ c.place = omega arith in
     (rw (room, value) (ap (λ (q : ℕ). ok_of (h * 2 ^ 32 % 2 ^ 64 + l, q)) end), c-all ∙ b-all, omega arith)
   where

@@ -88,10 +88,12 @@ module _ {A B : Type 0} (into : A → B) (out : B → Option A) {l : Layout A} (
   seen_there : (all : List Bool) (p : ℕ) (a : A) (q : ℕ) → Found l all p a → q ≡ behind l p a → Sound (seen into out l) all p (Ok (into a, q))
   unfolding seen
   seen_there all p a q f at =
-      let all-of = subst (λ (o : Option A). FitsAs into l.Fits o (into a) × MeetsAs l.Meets o × Stands all p (spelling_as l.spelling o) × (q ≡ p + length (spelling_as l.spelling o))) (sym (back a f.fits f.meets)) ((f.fits, refl), f.meets, f.stands, at) in
+      let all-of = subst (λ (o : Option A). FitsAs into l.Fits o (into a) × MeetsAs l.Meets o × Stands all p (spelling_as l.spelling o) × (q ≡ p + length (spelling_as l.spelling o)))
+      (sym (back a f.fits f.meets)) ((f.fits, refl), f.meets, f.stands, at) in
       (record { fits = all-of.0; meets = all-of.1; stands = all-of.2 }, all-of.3)
 
-  seen_found : (all : List Bool) (p : ℕ) (b : B) (o : Option A) → FitsAs into l.Fits o b → MeetsAs l.Meets o → Stands all p (spelling_as l.spelling o) → (l.read all p >>= λ a. Ok (into a.0, a.1)) ≡ Ok (b, p + length (spelling_as l.spelling o))
+  seen_found : (all : List Bool) (p : ℕ) (b : B) (o : Option A) → FitsAs into l.Fits o b → MeetsAs l.Meets o
+      → Stands all p (spelling_as l.spelling o) → (l.read all p >>= λ a. Ok (into a.0, a.1)) ≡ Ok (b, p + length (spelling_as l.spelling o))
   seen_found all p b None fits meets s = absurd fits
   seen_found all p b (Some a) fits meets s = rw (h.found all p a (record { fits = fits.0; meets = meets; stands = s })) (ap (λ (y : B). ok_of (y, behind l p a)) fits.1)
 
@@ -198,12 +200,14 @@ never_is field = record {
   failed = λ all p e f. rw f refl;
 }
 
-module _ {A R : Type 0} (of_record : R → A) {first : Layout A} {rest : A → Layout R} (h : IsLayout first) (k : (a : A) → IsLayout (rest a)) (sets : (a : A) → first.Fits a → first.Meets a → (r : R) → (rest a).Fits r → of_record r ≡ a) where
+module _ {A R : Type 0} (of_record : R → A) {first : Layout A} {rest : A → Layout R}
+    (h : IsLayout first) (k : (a : A) → IsLayout (rest a)) (sets : (a : A) → first.Fits a → first.Meets a → (r : R) → (rest a).Fits r → of_record r ≡ a) where
   part_there : (all : List Bool) (p : ℕ) (a : A × ℕ) → Found first all p a.0 → a.1 ≡ behind first p a.0 → (r : Read R) → Sound (rest a.0) all a.1 r → Sound (part first of_record rest) all p r
   unfolding part
   part_there all p a f at (Ok u) s =
       let both : Stands all p (first.spelling a.0 ++ (rest a.0).spelling u.0) = Stands-append all p (first.spelling a.0) ((rest a.0).spelling u.0) f.stands (subst (λ (q : ℕ). Stands all q ((rest a.0).spelling u.0)) at s.0.stands) in
-      let moved = subst (λ (b : A). (first.Fits b × (rest b).Fits u.0) × (first.Meets b × (rest b).Meets u.0) × Stands all p (first.spelling b ++ (rest b).spelling u.0) × (u.1 ≡ p + length (first.spelling b ++ (rest b).spelling u.0)))
+      let moved = subst (λ (b : A). (first.Fits b × (rest b).Fits u.0) × (first.Meets b × (rest b).Meets u.0)
+      × Stands all p (first.spelling b ++ (rest b).spelling u.0) × (u.1 ≡ p + length (first.spelling b ++ (rest b).spelling u.0)))
       (sym (sets a.0 f.fits f.meets u.0 s.0.fits))
       ((f.fits, s.0.fits), (f.meets, s.0.meets), both, omega (arith, at, s.1, length-append (first.spelling a.0) ((rest a.0).spelling u.0))) in
       (record { fits = moved.0; meets = moved.1; stands = moved.2 }, moved.3)
@@ -230,7 +234,8 @@ module _ {A R : Type 0} (of_record : R → A) {first : Layout A} {rest : A → L
 -- ---- lists
 
 module _ {A : Type 0} {first : Layout A} {rest : A → Layout (List A)} (h : IsLayout first) (k : (a : A) → IsLayout (rest a)) where
-  item_there : (all : List Bool) (p : ℕ) (x : A × ℕ) → Found first all p x.0 → x.1 ≡ behind first p x.0 → (r : Read (List A)) → Sound (rest x.0) all x.1 r → Sound (item first rest) all p (r >>= λ xs. Ok (x.0 ∷ xs.0, xs.1))
+  item_there : (all : List Bool) (p : ℕ) (x : A × ℕ) → Found first all p x.0 → x.1 ≡ behind first p x.0
+      → (r : Read (List A)) → Sound (rest x.0) all x.1 r → Sound (item first rest) all p (r >>= λ xs. Ok (x.0 ∷ xs.0, xs.1))
   unfolding item
   item_there all p x f at (Ok u) s =
       let both : Stands all p (first.spelling x.0 ++ (rest x.0).spelling u.0) = Stands-append all p (first.spelling x.0) ((rest x.0).spelling u.0) f.stands (subst (λ (q : ℕ). Stands all q ((rest x.0).spelling u.0)) at s.0.stands) in
@@ -270,7 +275,8 @@ module _ {R : Type 0} (room : Bool) (width value : ℕ) (is_there : R → Bool) 
   marked_there : (all : List Bool) (p : ℕ) (b : Bool) → b ≡ (room && next_is width value (drop p all)) → (r : Read R) → Sound (l b) all p r → Sound (marked room width value is_there l) all p r
   unfolding marked
   marked_there all p b is (Ok x) s =
-      let moved = subst (λ (c : Bool). ((l c).Fits x.0 × (c ≡ (room && next_is width value ((l c).spelling x.0)))) × (l c).Meets x.0 × Stands all p ((l c).spelling x.0) × (x.1 ≡ p + length ((l c).spelling x.0))) (sym (there b x.0 s.0.fits))
+      let moved = subst (λ (c : Bool). ((l c).Fits x.0 × (c ≡ (room && next_is width value ((l c).spelling x.0)))) × (l c).Meets x.0
+      × Stands all p ((l c).spelling x.0) × (x.1 ≡ p + length ((l c).spelling x.0))) (sym (there b x.0 s.0.fits))
       ((s.0.fits, is ∙ same_next b all p x.0 s.0 room refl), s.0.meets, s.0.stands, s.1) in
       (record { fits = moved.0; meets = moved.1; stands = moved.2 }, moved.3)
   marked_there all p b is (Err e) s = subst (λ (c : Bool). (l c).Fails all p e) is s

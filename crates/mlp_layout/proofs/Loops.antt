@@ -20,10 +20,12 @@ pub series_goes_on : {A : Type 0} (l : List A → Layout A) (front : List A) (co
 unfolding series item
 series_goes_on l front count i all p q x total lt h so_far =
     let k : count - i ≡ suc (count - (i + 1)) = omega arith in
-    let one : with_front front ((series l (count - i) front).read all p) ≡ with_front (front ++ x ∷ []) ((series l (count - (i + 1)) (front ++ x ∷ [])).read all q) = rw (k, h) (regroup front x ((series l (count - (i + 1)) (front ++ x ∷ [])).read all q)) in
+    let one : with_front front ((series l (count - i) front).read all p) ≡ with_front (front ++ x ∷ []) ((series l (count - (i + 1)) (front ++ x ∷ [])).read all q) =
+    rw (k, h) (regroup front x ((series l (count - (i + 1)) (front ++ x ∷ [])).read all q)) in
     sym one ∙ so_far
 
-pub series_stops : {A : Type 0} (l : List A → Layout A) (front : List A) (count i : ℕ) (all : List Bool) (p : ℕ) (e : Broken) (total : Read (List A)) → i < count → (l front).read all p ≡ Err e → SeriesContinues l (count - i) front all p total → total ≡ Err e
+pub series_stops : {A : Type 0} (l : List A → Layout A) (front : List A) (count i : ℕ) (all : List Bool) (p : ℕ) (e : Broken) (total : Read (List A))
+    → i < count → (l front).read all p ≡ Err e → SeriesContinues l (count - i) front all p total → total ≡ Err e
 unfolding series item
 series_stops l front count i all p e total lt h so_far =
     let k : count - i ≡ suc (count - (i + 1)) = omega arith in
@@ -65,7 +67,8 @@ module _ {S A : Type 0} (value : S → Layout A) (after : S → A → S) (field 
       pub values_go_on : (r : ℕ) → flag.read all q ≡ Ok (false, r) → ValuesContinue left (after s x) (front ++ x ∷ []) all r total
       unfolding up_to_last item part chosen
       values_go_on r k =
-          let one : with_front front ((up_to_last value after field (suc left) s).read all p) ≡ with_front (front ++ x ∷ []) ((up_to_last value after field left (after s x)).read all r) = rw (h, k) (regroup front x ((up_to_last value after field left (after s x)).read all r)) in
+          let one : with_front front ((up_to_last value after field (suc left) s).read all p) ≡ with_front (front ++ x ∷ []) ((up_to_last value after field left (after s x)).read all r) =
+          rw (h, k) (regroup front x ((up_to_last value after field left (after s x)).read all r)) in
           sym one ∙ so_far
 
   -- there were too many

@@ -27,7 +27,8 @@ goes_on l front count i all p q x total lt h so_far =
     let one : with_front front ((times (count - i) l).read all p) ≡ with_front (front ++ x ∷ []) ((times (count - (i + 1)) l).read all q) = rw (k, h) (regroup front x ((times (count - (i + 1)) l).read all q)) in
     sym one ∙ so_far
 
-pub stops : {A : Type 0} (l : Layout A) (front : List A) (count i : ℕ) (all : List Bool) (p : ℕ) (e : Broken) (total : Read (List A)) → i < count → l.read all p ≡ Err e → Continues l (count - i) front all p total → total ≡ Err e
+pub stops : {A : Type 0} (l : Layout A) (front : List A) (count i : ℕ) (all : List Bool) (p : ℕ) (e : Broken) (total : Read (List A))
+    → i < count → l.read all p ≡ Err e → Continues l (count - i) front all p total → total ≡ Err e
 unfolding times item
 stops l front count i all p e total lt h so_far =
     let k : count - i ≡ suc (count - (i + 1)) = omega arith in

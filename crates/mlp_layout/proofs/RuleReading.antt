@@ -35,7 +35,8 @@ module _ {A : Type 0} (all : List Bool) (p : ℕ) where
   under_ok [] l x q h ok = h
   under_ok (rule ∷ rules) l x q h ok = by_case (λ e k. under_ok rules (ruled rule l) x q (rule_passes rule l all p x q h e) k) (rule.fails x) refl ok
     where
-      by_case : (rule.fails x ≡ None → first_fault rules x ≡ None → (under rules (ruled rule l)).read all p ≡ Ok (x, q)) → (o : Option ℕ) → rule.fails x ≡ o → fault_or rule.field o (first_fault rules x) ≡ None → (under rules (ruled rule l)).read all p ≡ Ok (x, q)
+      by_case : (rule.fails x ≡ None → first_fault rules x ≡ None → (under rules (ruled rule l)).read all p ≡ Ok (x, q)) → (o : Option ℕ)
+          → rule.fails x ≡ o → fault_or rule.field o (first_fault rules x) ≡ None → (under rules (ruled rule l)).read all p ≡ Ok (x, q)
       by_case later None e ok = later e ok
       by_case later (Some at) e ok = absurd cc
 
@@ -50,6 +51,7 @@ module _ {A : Type 0} (all : List Bool) (p : ℕ) where
       some_is : (a b : Field × ℕ) → (let o : Option (Field × ℕ) = Some a in o ≡ Some b) → a ≡ b
       some_is a b e = cc
 
-      by_case : (rule.fails x ≡ None → first_fault rules x ≡ Some (f, at) → (under rules (ruled rule l)).read all p ≡ Err (broken f (p + at))) → (o : Option ℕ) → rule.fails x ≡ o → fault_or rule.field o (first_fault rules x) ≡ Some (f, at) → (under rules (ruled rule l)).read all p ≡ Err (broken f (p + at))
+      by_case : (rule.fails x ≡ None → first_fault rules x ≡ Some (f, at) → (under rules (ruled rule l)).read all p ≡ Err (broken f (p + at))) → (o : Option ℕ)
+          → rule.fails x ≡ o → fault_or rule.field o (first_fault rules x) ≡ Some (f, at) → (under rules (ruled rule l)).read all p ≡ Err (broken f (p + at))
       by_case later None e bad = later e bad
       by_case later (Some k) e bad = under_err rules (ruled rule l) (broken rule.field (p + k)) (rule_fails rule l all p x q k h e) ∙ ap err_at (some_is (rule.field, k) (f, at) bad)

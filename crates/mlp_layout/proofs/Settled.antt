@@ -78,7 +78,8 @@ first_bits w all more p le =
     let at : drop p (all ++ more) ≡ drop p all ++ more = drop-append-le p all more (omega arith) in
     rw at (take-append-le w (drop p all) more (omega (arith, length-drop p all)))
 
-pub opening_settled : {A : Type 0} (width : ℕ) (field : Field) (holds : ℕ → Bool) (l : Layout A) (all : List Bool) (p : ℕ) → p + width ≤ length all → (holds (number (take width (drop p all))) ≡ true → Settled l all p) → Settled (opening width field holds l) all p
+pub opening_settled : {A : Type 0} (width : ℕ) (field : Field) (holds : ℕ → Bool) (l : Layout A) (all : List Bool) (p : ℕ)
+    → p + width ≤ length all → (holds (number (take width (drop p all))) ≡ true → Settled l all p) → Settled (opening width field holds l) all p
 unfolding opening
 opening_settled {A} width field holds l all p le s = record { same = λ more. rw (first_bits width all more p le) (go (holds (number (take width (drop p all)))) refl more) }
   where
@@ -102,14 +103,16 @@ next_settled r s f g e h = ap (λ (t : Read _). t >>= g) e ∙ go r refl
     go (Ok x) e = h x e
     go (Err d) e = refl
 
-pub part_settled : {A R : Type 0} (first : Layout A) (of_record : R → A) (rest : A → Layout R) (all : List Bool) (p : ℕ) → IsLayout first → p ≤ length all → Settled first all p → ((a : A) → Found first all p a → Settled (rest a) all (behind first p a)) → Settled (part first of_record rest) all p
+pub part_settled : {A R : Type 0} (first : Layout A) (of_record : R → A) (rest : A → Layout R) (all : List Bool) (p : ℕ) → IsLayout first → p ≤ length all
+    → Settled first all p → ((a : A) → Found first all p a → Settled (rest a) all (behind first p a)) → Settled (part first of_record rest) all p
 unfolding part
 part_settled first of_record rest all p h le s k = record {
   same = λ more. next_settled (first.read all p) (first.read (all ++ more) p) (λ a. (rest a.0).read all a.1) (λ a. (rest a.0).read (all ++ more) a.1) (s.same more)
       (λ a e. let f = is_found h all p le a e in (subst (λ (q : ℕ). Settled (rest a.0) all q) (sym f.1) (k a.0 f.0)).same more);
 }
 
-pub item_settled : {A : Type 0} (first : Layout A) (rest : A → Layout (List A)) (all : List Bool) (p : ℕ) → IsLayout first → p ≤ length all → Settled first all p → ((a : A) → Found first all p a → Settled (rest a) all (behind first p a)) → Settled (item first rest) all p
+pub item_settled : {A : Type 0} (first : Layout A) (rest : A → Layout (List A)) (all : List Bool) (p : ℕ) → IsLayout first → p ≤ length all
+    → Settled first all p → ((a : A) → Found first all p a → Settled (rest a) all (behind first p a)) → Settled (item first rest) all p
 unfolding item
 item_settled first rest all p h le s k = record {
   same = λ more. next_settled (first.read all p) (first.read (all ++ more) p) (λ x. (rest x.0).read all x.1 >>= λ xs. Ok (x.0 ∷ xs.0, xs.1)) (λ x. (rest x.0).read (all ++ more) x.1 >>= λ xs. Ok (x.0 ∷ xs.0, xs.1)) (s.same more)
@@ -125,7 +128,8 @@ pub present_settled : {A : Type 0} (there : Bool) (l : Layout A) (all : List Boo
 unfolding present
 present_settled there l all p h = chosen_settled there (seen Some (λ o. o) l) (made None) all p (λ e. seen_settled Some (λ o. o) l all p (h e)) (λ e. made_settled None all p)
 
-pub marked_settled : {R : Type 0} (room : Bool) (width value : ℕ) (is_there : R → Bool) (l : Bool → Layout R) (all : List Bool) (p : ℕ) → (room ≡ true → p + width ≤ length all) → ((b : Bool) → b ≡ (room && next_is width value (drop p all)) → Settled (l b) all p) → Settled (marked room width value is_there l) all p
+pub marked_settled : {R : Type 0} (room : Bool) (width value : ℕ) (is_there : R → Bool) (l : Bool → Layout R) (all : List Bool) (p : ℕ) → (room ≡ true → p + width ≤ length all)
+    → ((b : Bool) → b ≡ (room && next_is width value (drop p all)) → Settled (l b) all p) → Settled (marked room width value is_there l) all p
 unfolding marked
 marked_settled room width value is_there l all p le s = record {
   same = λ more.

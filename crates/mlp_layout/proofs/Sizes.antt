@@ -14,7 +14,8 @@ pub number_takes : (w : ℕ) → Takes (number_of w) (λ n. w)
 unfolding number_of
 number_takes w = record { takes = λ n fits. length-bits w n }
 
-as_takes : {A B : Type 0} (into : A → B) (l : Layout A) (m : A → ℕ) (size : B → ℕ) → Takes l m → ((a : A) → size (into a) ≡ m a) → (o : Option A) (b : B) → FitsAs into l.Fits o b → length (spelling_as l.spelling o) ≡ size b
+as_takes : {A B : Type 0} (into : A → B) (l : Layout A) (m : A → ℕ) (size : B → ℕ) → Takes l m → ((a : A) → size (into a) ≡ m a)
+    → (o : Option A) (b : B) → FitsAs into l.Fits o b → length (spelling_as l.spelling o) ≡ size b
 as_takes into l m size t same None b fits = absurd fits
 as_takes into l m size t same (Some a) b fits = t.takes a fits.0 ∙ sym (same a) ∙ ap size fits.1
 
@@ -51,7 +52,8 @@ pub made_takes : {R : Type 0} (it : R) → Takes (made it) (λ r. 0)
 unfolding made
 made_takes it = record { takes = λ r fits. refl }
 
-pub part_takes : {A R : Type 0} (first : Layout A) (of_record : R → A) (rest : A → Layout R) (m : A → ℕ) (n : R → ℕ) → Takes first m → ((a : A) → Takes (rest a) n) → Takes (part first of_record rest) (λ r. m (of_record r) + n r)
+pub part_takes : {A R : Type 0} (first : Layout A) (of_record : R → A) (rest : A → Layout R) (m : A → ℕ) (n : R → ℕ)
+    → Takes first m → ((a : A) → Takes (rest a) n) → Takes (part first of_record rest) (λ r. m (of_record r) + n r)
 unfolding part
 part_takes first of_record rest m n t u = record {
   takes = λ r fits. let a = of_record r in omega (arith, length-append (first.spelling a) ((rest a).spelling r), t.takes a fits.0, (u a).takes r fits.1);
@@ -92,7 +94,8 @@ pub nil_takes : {A : Type 0} (size : A → ℕ) → Takes (made {R = List A} [])
 unfolding made
 nil_takes size = record { takes = λ xs fits. ap (total size) (sym fits) }
 
-list_takes : {A : Type 0} (first : Layout A) (rest : A → Layout (List A)) (size : A → ℕ) → Takes first size → ((x : A) → Takes (rest x) (total size)) → (xs : List A) → (item first rest).Fits xs → length ((item first rest).spelling xs) ≡ total size xs
+list_takes : {A : Type 0} (first : Layout A) (rest : A → Layout (List A)) (size : A → ℕ) → Takes first size
+    → ((x : A) → Takes (rest x) (total size)) → (xs : List A) → (item first rest).Fits xs → length ((item first rest).spelling xs) ≡ total size xs
 unfolding item
 list_takes first rest size t u [] fits = absurd fits
 list_takes first rest size t u (x ∷ xs) fits = omega (arith, length-append (first.spelling x) ((rest x).spelling xs), t.takes x fits.0, (u x).takes xs fits.1)

@@ -24,7 +24,8 @@ module _ {L O C : Type 0} (f : Format L O C) (is : IsFormat f) where
   SoundUnit left all (Ok x) = IsNext f left all x.0 × (x.1 ≡ length (spelling_of f left x.0))
   SoundUnit left all (Err e) = UnitFails f left all e
 
-  contents_sound : (left : L) (all : List Bool) (o : O × ℕ) → Found (f.outer left) all 0 o.0 → o.1 ≡ behind (f.outer left) 0 o.0 → (r : Result C UnitFault) → SoundIn (f.contents left o.0) ((f.outer left).spelling o.0) r → SoundUnit left all (with_outer f o r)
+  contents_sound : (left : L) (all : List Bool) (o : O × ℕ) → Found (f.outer left) all 0 o.0 → o.1 ≡ behind (f.outer left) 0 o.0
+      → (r : Result C UnitFault) → SoundIn (f.contents left o.0) ((f.outer left).spelling o.0) r → SoundUnit left all (with_outer f o r)
   contents_sound left all o h at (Ok c) s = (record { outer = h; contents = s }, omega (arith, at))
   contents_sound left all o h at (Err e) s = inr (o.0, h, s)
 
@@ -102,7 +103,8 @@ module _ {L O C : Type 0} (f : Format L O C) (is : IsFormat f) where
   left_behind left all [] rest b some e = some (sym b ∙ e)
   left_behind left all (u ∷ us) rest b some e = more_left left all u b.0 e
 
-  fails_at : (left : L) (all : List Bool) (us : List (UnitOf O C)) (rest : List Bool) (e : UnitFault) → Begins f left all us rest → (us ≢ [] → rest ≢ []) → UnitFails f (left_after f left us) rest e → FailsAt left all (length us) e
+  fails_at : (left : L) (all : List Bool) (us : List (UnitOf O C)) (rest : List Bool) (e : UnitFault) → Begins f left all us rest
+      → (us ≢ [] → rest ≢ []) → UnitFails f (left_after f left us) rest e → FailsAt left all (length us) e
   unfolding Begins FailsAt
   fails_at left all [] rest e b some h = subst (λ (t : List Bool). UnitFails f left t e) (sym b) h
   fails_at left all (u ∷ us) rest e b some h = (
@@ -127,7 +129,8 @@ module _ {L O C : Type 0} (f : Format L O C) (is : IsFormat f) where
   fault_of n e = record { unit = n; substream = e.substream; field = e.field; bit = e.bit }
 
   -- the other way round
-  units_fail : (left : L) (all : List Bool) (n : ℕ) (e : UnitFault) → FailsAt left all n e → (us : List (UnitOf O C)) × (rest : List Bool) × Begins f left all us rest × (length us ≡ n) × ((rest ≢ []) ⊎ (all ≡ [])) × UnitFails f (left_after f left us) rest e
+  units_fail : (left : L) (all : List Bool) (n : ℕ) (e : UnitFault) → FailsAt left all n e
+      → (us : List (UnitOf O C)) × (rest : List Bool) × Begins f left all us rest × (length us ≡ n) × ((rest ≢ []) ⊎ (all ≡ [])) × UnitFails f (left_after f left us) rest e
   unfolding Begins FailsAt
   units_fail left all zero e h = ([], all, refl, refl, some_or_none all, h)
   units_fail left all (suc n) e (u, next, more, h) =
@@ -296,7 +299,8 @@ module _ {L O C : Type 0} (f : Format L O C) (is : IsFormat f) where
   -- ---- one unit more
 
   -- units, and behind them units
-  pub begins_more : (left : L) (all : List Bool) (us : List (UnitOf O C)) (middle : List Bool) (vs : List (UnitOf O C)) (rest : List Bool) → Begins f left all us middle → Begins f (left_after f left us) middle vs rest → Begins f left all (us ++ vs) rest
+  pub begins_more : (left : L) (all : List Bool) (us : List (UnitOf O C)) (middle : List Bool) (vs : List (UnitOf O C)) (rest : List Bool)
+      → Begins f left all us middle → Begins f (left_after f left us) middle vs rest → Begins f left all (us ++ vs) rest
   unfolding Begins
   begins_more left all [] middle vs rest b c = subst (λ (t : List Bool). Begins f left t vs rest) (sym b) c
   begins_more left all (u ∷ us) middle vs rest b c = (b.0, begins_more (f.after left u) (rest_of f left all u) us middle vs rest b.1 c)

@@ -33,15 +33,19 @@ eqb-differ m n h = grind arith
 
 -- ---- tails
 
-module _ {A R : Type 0} (of_record : R → A) {first : Layout A} {rest : A → Tail R} (h : IsLayout first) (k : (a : A) → IsTail (rest a)) (sets : (a : A) (place : ℕ) (r : R) → first.Fits a → (rest a).Fits place r → of_record r ≡ a) where
+module _ {A R : Type 0} (of_record : R → A) {first : Layout A} {rest : A → Tail R}
+    (h : IsLayout first) (k : (a : A) → IsTail (rest a)) (sets : (a : A) (place : ℕ) (r : R) → first.Fits a → (rest a).Fits place r → of_record r ≡ a) where
   part_tail_there : (all : List Bool) (p : ℕ) (a : A × ℕ) → Found first all p a.0 → a.1 ≡ behind first p a.0 → (r : Result R Broken) → SoundTail (rest a.0) all a.1 r → SoundTail (part_tail first of_record rest) all p r
   unfolding part_tail
   part_tail_there all p a f at (Ok u) s =
       let text = first.spelling a.0 in
       let v : FoundTail (rest a.0) all (p + length text) u = subst (λ (q : ℕ). FoundTail (rest a.0) all q u) at s in
-      let parts : (first.Fits a.0 × (rest a.0).Fits (p + length text) u) × (first.Meets a.0 × (rest a.0).Meets (p + length text) u) × Stands all p (text ++ (rest a.0).spelling (p + length text) u) × (length all ≡ p + length (text ++ (rest a.0).spelling (p + length text) u)) =
+      let parts : (first.Fits a.0 × (rest a.0).Fits (p + length text) u) × (first.Meets a.0 × (rest a.0).Meets (p + length text) u)
+      × Stands all p (text ++ (rest a.0).spelling (p + length text) u) × (length all ≡ p + length (text ++ (rest a.0).spelling (p + length text) u)) =
       ((f.fits, v.fits), (f.meets, v.meets), Stands-append all p text ((rest a.0).spelling (p + length text) u) f.stands v.stands, omega (arith, v.ends, length-append text ((rest a.0).spelling (p + length text) u))) in
-      let here = subst (λ (b : A). (first.Fits b × (rest b).Fits (p + length (first.spelling b)) u) × (first.Meets b × (rest b).Meets (p + length (first.spelling b)) u) × Stands all p (first.spelling b ++ (rest b).spelling (p + length (first.spelling b)) u) × (length all ≡ p + length (first.spelling b ++ (rest b).spelling (p + length (first.spelling b)) u))) (sym (sets a.0 (p + length text) u f.fits v.fits)) parts in
+      let here = subst (λ (b : A). (first.Fits b × (rest b).Fits (p + length (first.spelling b)) u)
+      × (first.Meets b × (rest b).Meets (p + length (first.spelling b)) u) × Stands all p (first.spelling b ++ (rest b).spelling (p + length (first.spelling b)) u)
+      × (length all ≡ p + length (first.spelling b ++ (rest b).spelling (p + length (first.spelling b)) u))) (sym (sets a.0 (p + length text) u f.fits v.fits)) parts in
       record { fits = here.0; meets = here.1; stands = here.2; ends = here.3 }
   part_tail_there all p a f at (Err e) s = inr (a.0, f, subst (λ (q : ℕ). (rest a.0).Fails all q e) at s)
 
@@ -81,7 +85,8 @@ module _ {R : Type 0} {tail : ℕ → Tail R} (h : (place : ℕ) → IsTail (tai
     failed = λ all p e f. (h p).failed all p e f;
   }
 
-module _ {T R : Type 0} (field : Field) (width : ℕ) (some : 0 < width) {last : Layout T} (h : IsLayout last) (of_record : R → Option T) (made : Option T → R) (back : (o : Option T) → of_record (made o) ≡ o) (long : (t : T) → last.Fits t → length (last.spelling t) ≡ width) where
+module _ {T R : Type 0} (field : Field) (width : ℕ) (some : 0 < width) {last : Layout T} (h : IsLayout last) (of_record : R → Option T)
+    (made : Option T → R) (back : (o : Option T) → of_record (made o) ≡ o) (long : (t : T) → last.Fits t → length (last.spelling t) ≡ width) where
   EndFound : List Bool → ℕ → R → Option T → Type 0
   EndFound all p r o = (MeetsAs last.Fits o × (made o ≡ r)) × MeetsAs last.Meets o × Stands all p (spelling_as last.spelling o) × (length all ≡ p + length (spelling_as last.spelling o))
 
@@ -254,7 +259,8 @@ module _ (text : List Bool) (p c : ℕ) (small-p : p < 2 ^ 8) (small-c : c < 2 ^
 not_le : (a b : ℕ) → leb a b ≡ false → b < a
 not_le a b e = grind (arith, le-leb)
 
-module _ {R : Type 0} (parity check : List Bool → ℕ) {w : Whole R} (small-p : (b : List Bool) → parity b < 2 ^ 8) (small-c : (b : List Bool) → check b < 2 ^ 8) (long : (r : R) → w.Fits r → 16 ≤ length (w.spelling r)) (h : IsWhole w) where
+module _ {R : Type 0} (parity check : List Bool → ℕ) {w : Whole R}
+    (small-p : (b : List Bool) → parity b < 2 ^ 8) (small-c : (b : List Bool) → check b < 2 ^ 8) (long : (r : R) → w.Fits r → 16 ≤ length (w.spelling r)) (h : IsWhole w) where
   text_there : (all : List Bool) → 32 ≤ length all → parity_is parity all ≡ true → check_is check all ≡ true → (x : Result R Broken) → SoundWhole w (checked_part all) x → SoundWhole (checked_first parity check w) all x
   unfolding checked_first
   text_there all size p c (Ok r) f =

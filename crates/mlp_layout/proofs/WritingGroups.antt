@@ -28,10 +28,12 @@ module _ {A E : Type 0} (there : Bool) (l : Layout A) {old new : List Bool} {r :
   pub writes_none : Writes old new r (absent_text there) → Writes old new r ((group there l).spelling None)
   writes_none w = writes_as (none_text there l) w
 
-  pub writes_some : (x : A) (middle : List Bool) {F : Type 0} {u : Unit {0}} → (group there l).Fits (Some x) → Writes {E = F} old middle (Ok u) (flag.spelling true) → Writes middle new r (l.spelling x) → Writes old new r ((group there l).spelling (Some x))
+  pub writes_some : (x : A) (middle : List Bool) {F : Type 0} {u : Unit {0}} → (group there l).Fits (Some x)
+      → Writes {E = F} old middle (Ok u) (flag.spelling true) → Writes middle new r (l.spelling x) → Writes old new r ((group there l).spelling (Some x))
   writes_some x middle h a b = writes_as (some_text there l x h) (then_writes a b)
 
-pub flag_stops : {A E F : Type 0} (Q : E → Type 0) (there : Bool) (l : Layout A) (x : A) {old new : List Bool} {e : F} (r : Result (Unit {0}) E) → (group there l).Fits (Some x) → IsErrAnd r Q → Writes {E = F} old new (Err e) (flag.spelling true) → Writes old new r ((group there l).spelling (Some x))
+pub flag_stops : {A E F : Type 0} (Q : E → Type 0) (there : Bool) (l : Layout A) (x : A) {old new : List Bool} {e : F} (r : Result (Unit {0}) E)
+    → (group there l).Fits (Some x) → IsErrAnd r Q → Writes {E = F} old new (Err e) (flag.spelling true) → Writes old new r ((group there l).spelling (Some x))
 flag_stops Q there l x r h is a = writes_as (some_text there l x h) (stops_writing Q (l.spelling x) r is a)
 
 -- ---- fields and what follows them
@@ -48,10 +50,12 @@ fields_text (f ∷ fs) later = append_assoc (field_bits f) (flat_map field_bits 
 pub fields_only : {E : Type 0} (fs : List (ℕ × ℕ)) {old new : List Bool} {r : Result (Unit {0}) E} → Writes old new r (flat_map field_bits fs) → Writes old new r (fields fs [])
 fields_only fs a = writes_as (sym (append-nil (flat_map field_bits fs)) ∙ fields_text fs []) a
 
-pub fields_stop : {E F : Type 0} (Q : E → Type 0) (fs : List (ℕ × ℕ)) (later : List Bool) {old new : List Bool} {e : F} (r : Result (Unit {0}) E) → IsErrAnd r Q → Writes {E = F} old new (Err e) (flat_map field_bits fs) → Writes old new r (fields fs later)
+pub fields_stop : {E F : Type 0} (Q : E → Type 0) (fs : List (ℕ × ℕ)) (later : List Bool) {old new : List Bool} {e : F} (r : Result (Unit {0}) E)
+    → IsErrAnd r Q → Writes {E = F} old new (Err e) (flat_map field_bits fs) → Writes old new r (fields fs later)
 fields_stop Q fs later r is a = writes_as (fields_text fs later) (stops_writing Q later r is a)
 
-pub fields_then : {E F : Type 0} (fs : List (ℕ × ℕ)) {old middle new later : List Bool} {u : Unit {0}} {r : Result (Unit {0}) E} → Writes {E = F} old middle (Ok u) (flat_map field_bits fs) → Writes middle new r later → Writes old new r (fields fs later)
+pub fields_then : {E F : Type 0} (fs : List (ℕ × ℕ)) {old middle new later : List Bool} {u : Unit {0}} {r : Result (Unit {0}) E}
+    → Writes {E = F} old middle (Ok u) (flat_map field_bits fs) → Writes middle new r later → Writes old new r (fields fs later)
 fields_then fs {later = later} a b = writes_as (fields_text fs later) (then_writes a b)
 
 -- nothing follows

@@ -55,7 +55,8 @@ pub filled_as : (old new text other : List Bool) → text ≡ other → Filled o
 filled_as old new text other e a = subst (λ (t : List Bool). Filled old new t) e a
 
 -- what a writer's call did
-pub put_writes : {E : Type 0} (old new : List Bool) (r : Result (Unit {0}) E) (width value : ℕ) → (IsErr r ↔ (room < length old + width)) → OnErr r (new ≡ old) → OnOk r (new ≡ old ++ bits width value) → Writes old new r (bits width value)
+pub put_writes : {E : Type 0} (old new : List Bool) (r : Result (Unit {0}) E) (width value : ℕ) → (IsErr r ↔ (room < length old + width))
+    → OnErr r (new ≡ old) → OnOk r (new ≡ old ++ bits width value) → Writes old new r (bits width value)
 put_writes old new (Ok x) width value full kept appended = elim (cases_lt room (length old + width)) [
   | inl lt ↦ absurd (let h = full.1 lt in cc)
   | inr le ↦ record { ok = record { appended = appended; fitted = omega (arith, length-bits width value) }; err = tt }
@@ -104,13 +105,15 @@ module _ {A : Type 0} (l : List A → Layout A) (xs : List A) (i : ℕ) (x : A) 
       let count = length xs - (i + 1) in
       let k : length xs - i ≡ suc count = omega arith in
       let one : (series l (suc count) (take i xs)).spelling (x ∷ drop (i + 1) xs) ≡ (l (take i xs)).spelling x ++ (series l count (take i xs ++ x ∷ [])).spelling (drop (i + 1) xs) = refl in
-      ap (λ (n : ℕ). (series l n (take i xs)).spelling (drop i xs)) k ∙ ap (λ (ys : List A). (series l (suc count) (take i xs)).spelling ys) more_is ∙ one ∙ ap (λ (ys : List A). (l (take i xs)).spelling x ++ (series l count ys).spelling (drop (i + 1) xs)) (sym front_is)
+      ap (λ (n : ℕ). (series l n (take i xs)).spelling (drop i xs)) k ∙ ap (λ (ys : List A). (series l (suc count) (take i xs)).spelling ys) more_is
+      ∙ one ∙ ap (λ (ys : List A). (l (take i xs)).spelling x ++ (series l count ys).spelling (drop (i + 1) xs)) (sym front_is)
 
   pub left_fits : LeftFits l xs i → (l (take i xs)).Fits x × LeftFits l xs (i + 1)
   unfolding series item
   left_fits fits =
       let k : length xs - i ≡ suc (length xs - (i + 1)) = omega arith in
-      let here : (series l (suc (length xs - (i + 1))) (take i xs)).Fits (x ∷ drop (i + 1) xs) = subst (λ (n : ℕ). (series l n (take i xs)).Fits (x ∷ drop (i + 1) xs)) k (subst (λ (ys : List A). (series l (length xs - i) (take i xs)).Fits ys) more_is fits) in
+      let here : (series l (suc (length xs - (i + 1))) (take i xs)).Fits (x ∷ drop (i + 1) xs) =
+      subst (λ (n : ℕ). (series l n (take i xs)).Fits (x ∷ drop (i + 1) xs)) k (subst (λ (ys : List A). (series l (length xs - i) (take i xs)).Fits ys) more_is fits) in
       (here.0, subst (λ (ys : List A). (series l (length xs - (i + 1)) ys).Fits (drop (i + 1) xs)) (sym front_is) here.1)
 
 pub left_done : {A : Type 0} (l : List A → Layout A) (xs : List A) (i : ℕ) → length xs ≤ i → left_of l xs i ≡ []

@@ -19,7 +19,8 @@ must field holds = must_at 0 field holds
 -- rules on a part of a value, whose places are counted from the value's first bit
 abbrev pub on : {A B : Type 0} → (B → A) → List (Rule A) → List (Rule B)
 on of_value [] = []
-on of_value (rule ∷ rules) = record { field = rule.field; fails = λ x. rule.fails (of_value x) } ∷ on of_value rules
+on of_value (rule ∷ rules) =
+    record { field = rule.field; fails = λ x. rule.fails (of_value x) } ∷ on of_value rules
 
 -- rules that are tried in this order, once the value was read
 unfoldable pub under : {A : Type 0} → List (Rule A) → Layout A → Layout A

@@ -62,7 +62,8 @@ abbrev pub with_first : {S : Type 0} → S → Result (List S) UnitFault → Res
 with_first s (Ok ss) = Ok (s ∷ ss)
 with_first s (Err e) = Err e
 
-abbrev pub then_others : {S : Type 0} → ℕ → ℕ → Result S Broken → (S → Result (List S) UnitFault) → Result (List S) UnitFault
+abbrev pub then_others : {S : Type 0} → ℕ → ℕ → Result S Broken
+    → (S → Result (List S) UnitFault) → Result (List S) UnitFault
 then_others substream first (Ok s) others = with_first s (others s)
 then_others substream first (Err b) others = Err (in_segment substream first b)
 
@@ -70,7 +71,8 @@ unfoldable pub segment_first : {S : Type 0} → ℕ → Portion S → (S → Con
 segment_first substream p others = record {
   Fits = λ text. ConsFits (λ s. p.text.Fits s × (bits_in p text ≡ p.text.spelling s)) (λ s. (others s).Fits text);
   Meets = ConsFits p.text.Meets (λ s. (others s).Meets);
-  Fails = λ text e. ((b : Broken) × p.text.Fails (bits_in p text) b × (e ≡ in_segment substream p.first b)) ⊎ ((s : _) × FoundWhole p.text (bits_in p text) s × (others s).Fails text e);
+  Fails = λ text e. ((b : Broken) × p.text.Fails (bits_in p text) b × (e ≡ in_segment substream p.first b))
+      ⊎ ((s : _) × FoundWhole p.text (bits_in p text) s × (others s).Fails text e);
   read = λ text. then_others substream p.first (p.text.read (bits_in p text)) (λ s. (others s).read text);
 }
 
@@ -78,7 +80,8 @@ segment_first substream p others = record {
 module _ {S : Type 0} (portion : List S → Portion S) where
   unfoldable pub segments : ℕ → List S → Contents (List S)
   segments zero before = no_segments
-  segments (suc count) before = segment_first (length before) (portion before) (λ s. segments count (before ++ s ∷ []))
+  segments (suc count) before =
+      segment_first (length before) (portion before) (λ s. segments count (before ++ s ∷ []))
 
 -- ---- what contents owe
 

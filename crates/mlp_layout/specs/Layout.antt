@@ -75,7 +75,8 @@ ruled rule l = record {
   spelling = l.spelling;
   Fits = l.Fits;
   Meets = λ x. l.Meets x × (rule.fails x ≡ None);
-  Fails = λ all place e. l.Fails all place e ⊎ ((x : _) × (at : ℕ) × Found l all place x × (rule.fails x ≡ Some at) × (e ≡ broken rule.field (place + at)));
+  Fails = λ all place e. l.Fails all place e ⊎ ((x : _) × (at : ℕ) × Found l all place x
+      × (rule.fails x ≡ Some at) × (e ≡ broken rule.field (place + at)));
   read = λ all place. l.read all place >>= λ x. judged rule.field x place (rule.fails x.0);
 }
 
@@ -95,8 +96,10 @@ opening width field holds l = record {
   spelling = l.spelling;
   Fits = l.Fits;
   Meets = λ x. IsTrue (holds (number (take width (l.spelling x)))) × l.Meets x;
-  Fails = λ all place e. let ok = holds (number (take width (drop place all))) in ((ok ≡ false) × (e ≡ broken field place)) ⊎ (IsTrue ok × l.Fails all place e);
-  read = λ all place. if holds (number (take width (drop place all))) then l.read all place else Err (broken field place);
+  Fails = λ all place e. let ok = holds (number (take width (drop place all))) in
+      ((ok ≡ false) × (e ≡ broken field place)) ⊎ (IsTrue ok × l.Fails all place e);
+  read = λ all place. if holds (number (take width (drop place all))) then l.read all place
+      else Err (broken field place);
 }
 
 -- whatever fails in the value fails as this, at the value's first bit
@@ -141,7 +144,8 @@ part first of_record rest = record {
   spelling = λ r. first.spelling (of_record r) ++ (rest (of_record r)).spelling r;
   Fits = λ r. first.Fits (of_record r) × (rest (of_record r)).Fits r;
   Meets = λ r. first.Meets (of_record r) × (rest (of_record r)).Meets r;
-  Fails = λ all place e. first.Fails all place e ⊎ ((a : _) × Found first all place a × (rest a).Fails all (behind first place a) e);
+  Fails = λ all place e. first.Fails all place e
+      ⊎ ((a : _) × Found first all place a × (rest a).Fails all (behind first place a) e);
   read = λ all place. first.read all place >>= λ a. (rest a.0).read all a.1;
 }
 
@@ -161,7 +165,8 @@ item first rest = record {
   spelling = cons_spelling first.spelling (λ x xs. (rest x).spelling xs);
   Fits = ConsFits first.Fits (λ x xs. (rest x).Fits xs);
   Meets = ConsFits first.Meets (λ x xs. (rest x).Meets xs);
-  Fails = λ all place e. first.Fails all place e ⊎ ((x : _) × Found first all place x × (rest x).Fails all (behind first place x) e);
+  Fails = λ all place e. first.Fails all place e
+      ⊎ ((x : _) × Found first all place x × (rest x).Fails all (behind first place x) e);
   read = λ all place. first.read all place >>= λ x. (rest x.0).read all x.1 >>= λ xs. Ok (x.0 ∷ xs.0, xs.1);
 }
 
@@ -188,8 +193,10 @@ sized size field back l = record {
   spelling = l.spelling;
   Fits = λ x. l.Fits x × (length (l.spelling x) ≡ size);
   Meets = l.Meets;
-  Fails = λ all place e. ((length all < place + size) × (e ≡ broken field (place - back))) ⊎ ((place + size ≤ length all) × l.Fails (take (place + size) all) place e);
-  read = λ all place. if nat_le (place + size) (length all) then l.read (take (place + size) all) place else Err (broken field (place - back));
+  Fails = λ all place e. ((length all < place + size) × (e ≡ broken field (place - back)))
+      ⊎ ((place + size ≤ length all) × l.Fails (take (place + size) all) place e);
+  read = λ all place. if nat_le (place + size) (length all)
+      then l.read (take (place + size) all) place else Err (broken field (place - back));
 }
 
 -- ---- what a layout owes
@@ -202,7 +209,8 @@ Sound l all place (Err e) = l.Fails all place e
 -- what reading gives is there, and what is there is what reading gives
 pub record IsLayout {A : Type 0} (l : Layout A) : Type 0 where
   pub sound : (all : List Bool) (place : ℕ) → place ≤ length all → Sound l all place (l.read all place)
-  pub found : (all : List Bool) (place : ℕ) (x : A) → Found l all place x → l.read all place ≡ Ok (x, behind l place x)
+  pub found : (all : List Bool) (place : ℕ) (x : A)
+      → Found l all place x → l.read all place ≡ Ok (x, behind l place x)
   pub failed : (all : List Bool) (place : ℕ) (e : Broken) → l.Fails all place e → l.read all place ≡ Err e
 
 -- so at each place there is one value or one fault, and not both

@@ -34,7 +34,8 @@ short place = broken SegmentShort place
 -- a number of so many bits
 unfoldable pub number_at : ℕ → List Bool → ℕ → Read ℕ
 number_at width all place =
-    if nat_le (place + width) (length all) then Ok (number (take width (drop place all)), place + width) else Err (short place)
+    if nat_le (place + width) (length all)
+    then Ok (number (take width (drop place all)), place + width) else Err (short place)
 
 -- what a function returned is what reading gives, and the reader stands behind it
 abbrev pub Gives : {X Y : Type 0} → (X → Y) → Cursor → Cursor → Result X Broken → Read Y → Type 0

@@ -4,7 +4,7 @@
 --
 --     format : ℕ → Format Left AccessUnit (List Segment)
 --     format k = record {
---       outer = λ left. access_unit left.first_sync;                    -- head, major sync, directory, and bytes to the end
+--       outer = λ left. access_unit left.first_sync;                    -- head, major sync, directory and body
 --       contents = λ left outer. segments (portion left outer) (k + 1) [];  -- the segments of the substreams 0 to k
 --       after = λ left unit. ...;                                       -- what the units so far leave, with this one
 --       presentations = λ outer. ...;                                   -- how many presentations a first unit tells
@@ -60,7 +60,8 @@ module _ {L O C : Type 0} (f : Format L O C) where
 
   -- it does, or it doesn't and what it contains fails so
   abbrev pub UnitFails : L → List Bool → UnitFault → Type 0
-  UnitFails left all e = OuterFails left all e ⊎ ((o : O) × Found (f.outer left) all 0 o × (f.contents left o).Fails ((f.outer left).spelling o) e)
+  UnitFails left all e = OuterFails left all e
+      ⊎ ((o : O) × Found (f.outer left) all 0 o × (f.contents left o).Fails ((f.outer left).spelling o) e)
 
   -- how a unit is read: the unit and the place behind it, or the first fault
   abbrev pub with_outer : O × ℕ → Result C UnitFault → Result (UnitOf O C × ℕ) UnitFault
@@ -132,10 +133,14 @@ module _ {L O C : Type 0} (f : Format L O C) where
 
   -- exactly one of the three holds, with one list of units, one fault or one number
   pub record HasOne (start : L) (k : ℕ) (all : List Bool) : Type 0 where
-    pub some : ((us : List (UnitOf O C)) × Stream start k all us) ⊎ (((fault : Fault) × Breaks start k all fault) ⊎ ((have : ℕ) × NoPres start k all have))
-    pub not_stream_and_breaks : (us : List (UnitOf O C)) (fault : Fault) → Stream start k all us → Breaks start k all fault → ⊥
-    pub not_stream_and_none : (us : List (UnitOf O C)) (have : ℕ) → Stream start k all us → NoPres start k all have → ⊥
-    pub not_breaks_and_none : (fault : Fault) (have : ℕ) → Breaks start k all fault → NoPres start k all have → ⊥
+    pub some : ((us : List (UnitOf O C)) × Stream start k all us)
+        ⊎ (((fault : Fault) × Breaks start k all fault) ⊎ ((have : ℕ) × NoPres start k all have))
+    pub not_stream_and_breaks : (us : List (UnitOf O C)) (fault : Fault)
+        → Stream start k all us → Breaks start k all fault → ⊥
+    pub not_stream_and_none : (us : List (UnitOf O C)) (have : ℕ)
+        → Stream start k all us → NoPres start k all have → ⊥
+    pub not_breaks_and_none : (fault : Fault) (have : ℕ)
+        → Breaks start k all fault → NoPres start k all have → ⊥
     pub one_list : (us vs : List (UnitOf O C)) → Stream start k all us → Stream start k all vs → us ≡ vs
     pub one_fault : (d e : Fault) → Breaks start k all d → Breaks start k all e → d ≡ e
     pub one_number : (g h : ℕ) → NoPres start k all g → NoPres start k all h → g ≡ h

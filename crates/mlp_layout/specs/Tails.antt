@@ -29,10 +29,14 @@ then_tail (Err e) f = Err e
 -- a part of a record, and behind it a tail, which may depend on it
 unfoldable pub part_tail : {A R : Type 0} → Layout A → (R → A) → (A → Tail R) → Tail R
 part_tail first of_record rest = record {
-  spelling = λ place r. first.spelling (of_record r) ++ (rest (of_record r)).spelling (place + length (first.spelling (of_record r))) r;
-  Fits = λ place r. first.Fits (of_record r) × (rest (of_record r)).Fits (place + length (first.spelling (of_record r))) r;
-  Meets = λ place r. first.Meets (of_record r) × (rest (of_record r)).Meets (place + length (first.spelling (of_record r))) r;
-  Fails = λ all place e. first.Fails all place e ⊎ ((a : _) × Found first all place a × (rest a).Fails all (place + length (first.spelling a)) e);
+  spelling = λ place r. first.spelling (of_record r)
+      ++ (rest (of_record r)).spelling (place + length (first.spelling (of_record r))) r;
+  Fits = λ place r. first.Fits (of_record r)
+      × (rest (of_record r)).Fits (place + length (first.spelling (of_record r))) r;
+  Meets = λ place r. first.Meets (of_record r)
+      × (rest (of_record r)).Meets (place + length (first.spelling (of_record r))) r;
+  Fails = λ all place e. first.Fails all place e
+      ⊎ ((a : _) × Found first all place a × (rest a).Fails all (place + length (first.spelling a)) e);
   read = λ all place. then_tail (first.read all place) (λ a. (rest a.0).read all a.1);
 }
 
@@ -47,16 +51,21 @@ placed tail = record {
 }
 
 -- nothing where no bits are left, a last value where so many are left, and else this fails
-abbrev pub ending_read : {T R : Type 0} → Field → ℕ → Layout T → (Option T → R) → List Bool → ℕ → Result R Broken
+abbrev pub ending_read : {T R : Type 0} → Field → ℕ → Layout T
+    → (Option T → R) → List Bool → ℕ → Result R Broken
 ending_read field width last made all place =
-    if length all == place then Ok (made None) else if length all == place + width then then_tail (last.read all place) (λ t. Ok (made (Some t.0))) else Err (broken field place)
+    if length all == place then Ok (made None)
+    else if length all == place + width then then_tail (last.read all place) (λ t. Ok (made (Some t.0)))
+    else Err (broken field place)
 
-unfoldable pub ending : {T R : Type 0} → Field → ℕ → Layout T → (R → Option T) → (Option T → R) → Tail R
+unfoldable pub ending : {T R : Type 0} → Field → ℕ
+    → Layout T → (R → Option T) → (Option T → R) → Tail R
 ending field width last of_record made = record {
   spelling = λ place r. spelling_as last.spelling (of_record r);
   Fits = λ place r. MeetsAs last.Fits (of_record r) × (made (of_record r) ≡ r);
   Meets = λ place r. MeetsAs last.Meets (of_record r);
-  Fails = λ all place e. (length all ≢ place) × (((length all ≢ place + width) × (e ≡ broken field place)) ⊎ ((length all ≡ place + width) × last.Fails all place e));
+  Fails = λ all place e. (length all ≢ place) × (((length all ≢ place + width) × (e ≡ broken field place))
+      ⊎ ((length all ≡ place + width) × last.Fails all place e));
   read = ending_read field width last made;
 }
 
@@ -101,7 +110,8 @@ judged_at_end judge w = record {
   spelling = w.spelling;
   Fits = w.Fits;
   Meets = λ r. w.Meets r × (judge (length (w.spelling r)) r ≡ None);
-  Fails = λ all e. w.Fails all e ⊎ ((r : _) × (b : Field × ℕ) × FoundWhole w all r × (judge (length all) r ≡ Some b) × (e ≡ broken b.0 b.1));
+  Fails = λ all e. w.Fails all e ⊎ ((r : _) × (b : Field × ℕ) × FoundWhole w all r
+      × (judge (length all) r ≡ Some b) × (e ≡ broken b.0 b.1));
   read = λ all. then_judge (w.read all) (judge (length all));
 }
 
@@ -121,7 +131,8 @@ parity_is parity all = byte_at (length all - 16) all == parity (checked_part all
 abbrev pub check_is : (List Bool → ℕ) → List Bool → Bool
 check_is check all = byte_at (length all - 8) all == check (checked_part all)
 
-abbrev pub checked_read : {R : Type 0} → (List Bool → ℕ) → (List Bool → ℕ) → Whole R → List Bool → Result R Broken
+abbrev pub checked_read : {R : Type 0} → (List Bool → ℕ)
+    → (List Bool → ℕ) → Whole R → List Bool → Result R Broken
 checked_read parity check w all =
     if nat_le 32 (length all) then
     if parity_is parity all then
@@ -131,12 +142,16 @@ checked_read parity check w all =
     else Err (short 0)
 
 -- the fault of the two bytes or of fewer than four, or of the text before them
-abbrev pub CheckedFails : {R : Type 0} → (List Bool → ℕ) → (List Bool → ℕ) → Whole R → List Bool → Broken → Type 0
+abbrev pub CheckedFails : {R : Type 0} → (List Bool → ℕ)
+    → (List Bool → ℕ) → Whole R → List Bool → Broken → Type 0
 CheckedFails parity check w all e =
     ((length all < 32) × (e ≡ short 0)) ⊎
-    (((32 ≤ length all) × (parity_is parity all ≡ false) × (e ≡ broken rule.SegmentParity (length all - 16))) ⊎
-    (((32 ≤ length all) × (parity_is parity all ≡ true) × (check_is check all ≡ false) × (e ≡ broken rule.SegmentCheck (length all - 8))) ⊎
-    ((32 ≤ length all) × (parity_is parity all ≡ true) × (check_is check all ≡ true) × w.Fails (checked_part all) e)))
+    (((32 ≤ length all) × (parity_is parity all ≡ false)
+    × (e ≡ broken rule.SegmentParity (length all - 16))) ⊎
+    (((32 ≤ length all) × (parity_is parity all ≡ true) × (check_is check all ≡ false)
+    × (e ≡ broken rule.SegmentCheck (length all - 8))) ⊎
+    ((32 ≤ length all) × (parity_is parity all ≡ true)
+    × (check_is check all ≡ true) × w.Fails (checked_part all) e)))
 
 unfoldable pub checked_first : {R : Type 0} → (List Bool → ℕ) → (List Bool → ℕ) → Whole R → Whole R
 checked_first parity check w = record {

@@ -1,7 +1,7 @@
 //! Writing the simplest values.
 //!
-//! Each call appends the text of its value, and answers `Full` exactly where the bits would pass 65,520; then the writer
-//! has its old bits and perhaps a part of the new ones, and isn't used again.
+//! Each call appends the text of its value, and answers `Full` exactly where the bits would pass 65,520; then the
+//! writer has its old bits and perhaps a part of the new ones, and isn't used again.
 ghost use Rattle.std.specs.Prelude.{◌≡◌, ◌≤◌, ◌<◌, ◌^◌, ℤ, Some};
 ghost use Rattle.std.specs.List.{AllByRecursion, flat_map};
 ghost use Rattle.mlp_layout.specs.Layout.{number_of};

@@ -77,7 +77,8 @@ map_same (suc n) a = ap (λ (cs : List ChannelState). restarted_channel ∷ cs) 
 pub all_restarted : (low high : ℕ) → low ≤ high → replicate high restarted_channel ≡ replicate low restarted_channel ++ map (channel_in_force []) (range_with_len 0 (high - low))
 all_restarted low high le =
     let whole : low + (high - low) ≡ high = omega arith in
-    ap (λ (n : ℕ). replicate n restarted_channel) (sym whole) ∙ sym (replicate-append-replicate low (high - low) restarted_channel) ∙ ap (λ (cs : List ChannelState). replicate low restarted_channel ++ cs) (sym (map_same (high - low) 0))
+    ap (λ (n : ℕ). replicate n restarted_channel) (sym whole) ∙ sym (replicate-append-replicate low (high - low) restarted_channel)
+    ∙ ap (λ (cs : List ChannelState). replicate low restarted_channel ++ cs) (sym (map_same (high - low) 0))
 
 pub restart_is_state : (format : Kind) (unit_frames : ℕ) (r : Restart) → Allowed (restart format) r → 8 ≤ unit_frames → unit_frames ≤ 160 → IsState (in_force format unit_frames r [])
 restart_is_state format unit_frames r a least most =

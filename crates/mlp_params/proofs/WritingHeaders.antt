@@ -22,7 +22,8 @@ assigned_text m (suc n) before [] = refl
 assigned_text m (suc n) before (x ∷ xs) = ap (λ (t : List Bool). (number_of 6).spelling x ++ t) (assigned_text m n (before ++ x ∷ []) xs)
 
 abbrev pub header_fields : Restart → List (ℕ × ℕ)
-header_fields r = (0x18F5, 13) ∷ (r.kind, 1) ∷ (r.output_timing, 16) ∷ (r.min, 4) ∷ (r.max, 4) ∷ (r.max_matrix, 4) ∷ (r.noise_shift, 4) ∷ (r.seed, 23) ∷ (r.carried_a, 19) ∷ (digit r.data_check, 1) ∷ (r.lossless, 8) ∷ (r.carried_b, 16) ∷ []
+header_fields r = (0x18F5, 13) ∷ (r.kind, 1) ∷ (r.output_timing, 16) ∷ (r.min, 4) ∷ (r.max, 4) ∷ (r.max_matrix, 4)
+    ∷ (r.noise_shift, 4) ∷ (r.seed, 23) ∷ (r.carried_a, 19) ∷ (digit r.data_check, 1) ∷ (r.lossless, 8) ∷ (r.carried_b, 16) ∷ []
 
 pub header_text : (format : Kind) (r : Restart) → fields (header_fields r) ((series (assigned r.max_matrix) (r.max_matrix + 1) []).spelling r.assign.items ++ []) ≡ (restart_fields format).spelling r
 unfolding restart_fields fixed part ruled number_of flag seen made

@@ -32,5 +32,8 @@ applied s p = record {
   rows = unwrap_or p.matrices s.rows;
   shifts = unwrap_or p.shifts s.shifts;
   steps = unwrap_or p.steps s.steps;
-  channels = record { items = take s.restart.min s.channels.items ++ channels_applied (drop s.restart.min s.channels.items) p.channels.items };
+  channels = record {
+    items = take s.restart.min s.channels.items
+        ++ channels_applied (drop s.restart.min s.channels.items) p.channels.items;
+  };
 }

@@ -14,8 +14,8 @@ order_of f = length f.coeffs.items
 abbrev pub absent : {n : ℕ} → Filter n
 absent = record { shift = 0; coeff_bits = 0; coeff_shift = 0; coeffs = record { items = [] }; state = None }
 
--- Coefficient bits and coefficient shift, with one rule on both, whose place is the coefficient bits. Where these alone break
--- it, it fails before the shift is read.
+-- Coefficient bits and coefficient shift, with one rule on both, whose place is the coefficient bits. Where these alone
+-- break it, it fails before the shift is read.
 unfoldable pub widths : Layout (ℕ × ℕ)
 widths =
     ruled (must rule.CoeffBits (λ w. nat_le (w.0 + w.1) 16))
@@ -39,7 +39,13 @@ behind_order n has_state order =
     part (times order (signed_of w.0)) (λ f. f.coeffs.items) (λ coeffs.
     part (ruled (must rule.FirState (λ there. has_state || not there)) flag) (λ f. is_some f.state) (λ there.
     part (present there (filter_state order)) (λ f. f.state) (λ state.
-    made (record { shift = shift; coeff_bits = w.0; coeff_shift = w.1; coeffs = record { items = coeffs }; state = state }))))))
+    made (record {
+      shift = shift;
+      coeff_bits = w.0;
+      coeff_shift = w.1;
+      coeffs = record { items = coeffs };
+      state = state;
+    }))))))
 
 -- a filter of at most so many coefficients
 unfoldable pub filter : (n : ℕ) → Bool → Layout (Filter n)

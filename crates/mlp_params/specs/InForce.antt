@@ -49,7 +49,10 @@ in_force format unit_frames r given = record {
   rows = latest (λ p. p.matrices) given (record { items = [] });
   shifts = latest (λ p. p.shifts) given (record { items = replicate (r.max_matrix + 1) 0 });
   steps = latest (λ p. p.steps) given (record { items = replicate (r.max + 1) 0 });
-  channels = record { items = replicate r.min restarted_channel ++ map (channel_in_force given) (range_with_len 0 (r.max + 1 - r.min)) };
+  channels = record {
+    items = replicate r.min restarted_channel
+        ++ map (channel_in_force given) (range_with_len 0 (r.max + 1 - r.min));
+  };
 }
 
 -- ---- blocks
@@ -61,8 +64,10 @@ last_restart (block ∷ earlier) = if is_some block.restart then block.restart e
 -- the parameters given since the last restart, with those of its own block
 abbrev pub given_since : List BlockHead → List Params
 given_since [] = []
-given_since (block ∷ earlier) = option_to_list block.params ++ (if is_some block.restart then [] else given_since earlier)
+given_since (block ∷ earlier) =
+    option_to_list block.params ++ (if is_some block.restart then [] else given_since earlier)
 
 -- what is in force behind these blocks, where one of them has a restart
 abbrev pub behind_blocks : Kind → ℕ → List BlockHead → Option State
-behind_blocks format unit_frames blocks = option_map (λ r. in_force format unit_frames r (given_since blocks)) (last_restart blocks)
+behind_blocks format unit_frames blocks =
+    option_map (λ r. in_force format unit_frames r (given_since blocks)) (last_restart blocks)

@@ -30,7 +30,13 @@ row r =
     part flag (λ m. m.bypass) (λ bypass.
     part (times (sources r) (group true (signed_of (frac + 2)))) (λ m. m.coeffs.items) (λ coeffs.
     part (noise_shift_of r.kind) (λ m. m.noise_shift) (λ noise_shift.
-    made (record { dest = dest; frac = frac; bypass = bypass; coeffs = record { items = coeffs }; noise_shift = noise_shift }))))))
+    made (record {
+      dest = dest;
+      frac = frac;
+      bypass = bypass;
+      coeffs = record { items = coeffs };
+      noise_shift = noise_shift;
+    }))))))
 
 -- the count and the rows
 unfoldable pub rows : Kind → Restart → Layout (ArrayVec MatrixRow)

@@ -20,7 +20,8 @@ one_precision fir iir = (order_of fir == 0) || (order_of iir == 0) || (fir.shift
 
 -- two rules on the filters that are in force behind both groups, and then the rest
 unfoldable pub filters_tested : {A : Type 0} → Filter 8 → Filter 4 → Layout A → Layout A
-filters_tested fir iir rest = tested rule.FilterSum (nat_le (order_of fir + order_of iir) 8) (tested rule.FilterPrecision (one_precision fir iir) rest)
+filters_tested fir iir rest = tested rule.FilterSum (nat_le (order_of fir + order_of iir) 8)
+    (tested rule.FilterPrecision (one_precision fir iir) rest)
 
 unfoldable pub channel : ℕ → ChannelState → Layout ChannelParams
 channel flags in_force =
@@ -54,9 +55,17 @@ groups s presence flags =
     part (group (bit flags 5) (listed (s.restart.max_matrix + 1) output_shift)) (λ p. p.shifts) (λ shifts.
     part (group (bit flags 4) (listed (s.restart.max + 1) (number_of 4))) (λ p. p.steps) (λ steps.
     part (given_channels flags s) (λ p. p.channels.items) (λ channels.
-    made (record { presence = presence; block_size = block_size; matrices = matrices; shifts = shifts; steps = steps; channels = record { items = channels } }))))))
+    made (record {
+      presence = presence;
+      block_size = block_size;
+      matrices = matrices;
+      shifts = shifts;
+      steps = steps;
+      channels = record { items = channels };
+    }))))))
 
 -- A group is there where its presence bit is set. The bits are those in force before the block up to the presence flags
 -- themselves, which are bit 0, and those that the block gives from there on.
 unfoldable pub params : State → Layout Params
-params s = part (group (bit s.presence 0) (number_of 8)) (λ p. p.presence) (λ presence. groups s presence (unwrap_or presence s.presence))
+params s = part (group (bit s.presence 0) (number_of 8)) (λ p. p.presence)
+    (λ presence. groups s presence (unwrap_or presence s.presence))

@@ -21,7 +21,8 @@ noise_limit Fba = 1
 
 -- an output channel that isn't above the greatest and wasn't given before
 abbrev pub assigned : ℕ → List ℕ → Layout ℕ
-assigned max_matrix before = ruled (must rule.ChannelAssign (λ a. nat_le a max_matrix && not (list_any (λ b. b == a) before))) (number_of 6)
+assigned max_matrix before =
+    ruled (must rule.ChannelAssign (λ a. nat_le a max_matrix && not (list_any (λ b. b == a) before))) (number_of 6)
 
 unfoldable pub restart_fields : Kind → Layout Restart
 restart_fields format =
@@ -29,7 +30,8 @@ restart_fields format =
     (part (ruled (must rule.RestartKind (λ k. nat_le k (noise_limit format))) (number_of 1)) (λ r. r.kind) (λ kind.
     part (number_of 16) (λ r. r.output_timing) (λ output_timing.
     part (number_of 4) (λ r. r.min) (λ min.
-    part (ruled (must rule.ChannelRange (λ m. nat_le min m && nat_le m (channel_limit format))) (number_of 4)) (λ r. r.max) (λ max.
+    part (ruled (must rule.ChannelRange (λ m. nat_le min m && nat_le m (channel_limit format))) (number_of 4))
+    (λ r. r.max) (λ max.
     part (ruled (must rule.MatrixChannel (λ m. m == max)) (number_of 4)) (λ r. r.max_matrix) (λ max_matrix.
     part (number_of 4) (λ r. r.noise_shift) (λ noise_shift.
     part (number_of 23) (λ r. r.seed) (λ seed.

@@ -71,7 +71,8 @@ counted_one book b offset step all left later r bits n is t k = record {
 }
 
 -- a residual without a code
-pub counted_never : (book b : ℕ) (offset : ℤ) (step : ℕ) (all left later : List ℤ) (r : ℤ) (bits : ℕ) → left ≡ r ∷ later → ((code : Code) → Spells book b offset step r code → ⊥) → Counted book b offset step all left bits
+pub counted_never : (book b : ℕ) (offset : ℤ) (step : ℕ) (all left later : List ℤ) (r : ℤ) (bits : ℕ) → left ≡ r ∷ later
+    → ((code : Code) → Spells book b offset step r code → ⊥) → Counted book b offset step all left bits
     → (n : ℕ) → TakeBits book b offset step all n → ⊥
 unfolding TakeBits
 counted_never book b offset step all left later r bits is none k n h =

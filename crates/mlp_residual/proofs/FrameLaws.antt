@@ -151,9 +151,11 @@ in_two l (suc n) k all p =
     later x (Err e) = refl
 
     go : (r : Read _) → ((q : ℕ) → (series (λ _. l) (n + k) []).read all q ≡ ((series (λ _. l) n []).read all q >>= λ xs. with_front xs.0 ((series (λ _. l) k []).read all xs.1)))
-        → (r >>= λ x. one_before x ((series (λ _. l) (n + k) (x.0 ∷ [])).read all x.1)) ≡ ((r >>= λ x. one_before x ((series (λ _. l) n (x.0 ∷ [])).read all x.1)) >>= λ ys. with_front ys.0 ((series (λ _. l) k []).read all ys.1))
+        → (r >>= λ x. one_before x ((series (λ _. l) (n + k) (x.0 ∷ [])).read all x.1))
+        ≡ ((r >>= λ x. one_before x ((series (λ _. l) n (x.0 ∷ [])).read all x.1)) >>= λ ys. with_front ys.0 ((series (λ _. l) k []).read all ys.1))
     go (Ok x) more =
-        let whole : (series (λ _. l) (n + k) (x.0 ∷ [])).read all x.1 ≡ ((series (λ _. l) n []).read all x.1 >>= λ xs. with_front xs.0 ((series (λ _. l) k []).read all xs.1)) = same_before l (n + k) (x.0 ∷ []) [] all x.1 ∙ more x.1 in
+        let whole : (series (λ _. l) (n + k) (x.0 ∷ [])).read all x.1 ≡ ((series (λ _. l) n []).read all x.1 >>= λ xs. with_front xs.0 ((series (λ _. l) k []).read all xs.1)) =
+        same_before l (n + k) (x.0 ∷ []) [] all x.1 ∙ more x.1 in
         let some = same_before l n (x.0 ∷ []) [] all x.1 in
         ap (one_before x) whole ∙ (later x ((series (λ _. l) n []).read all x.1) ∙ ap (λ (r : Read (List _)). one_before x r >>= λ ys. with_front ys.0 ((series (λ _. l) k []).read all ys.1)) (sym some))
     go (Err e) more = refl

@@ -35,7 +35,8 @@ value_takes book b step n symbol low offset base v lengths k s l p is =
     }
 
 -- .. and one that is not has no code
-pub value_never : (book b step : ℕ) (offset base v : ℤ) (lengths : List ℕ) → Scale book b offset base lengths → ((symbol low : ℕ) → symbol < length lengths → low < 2 ^ b → v +ℤ base ≡ pos (symbol * 2 ^ b + low) → ⊥)
+pub value_never : (book b step : ℕ) (offset base v : ℤ) (lengths : List ℕ) → Scale book b offset base lengths
+    → ((symbol low : ℕ) → symbol < length lengths → low < 2 ^ b → v +ℤ base ≡ pos (symbol * 2 ^ b + low) → ⊥)
     → (code : Code) → Spells book b offset step (v *ℤ pos (2 ^ step)) code → ⊥
 value_never book b step offset base v lengths k none code s =
     let place = place_of book b step code offset v (v *ℤ pos (2 ^ step)) refl s in
@@ -53,13 +54,15 @@ no_whole book b step n zero offset (r ∷ rs) lt none h = none _ h.2.value
 no_whole book b step n (suc i) offset (r ∷ rs) lt none h = no_whole book b step h.1 i offset rs (omega (arith, lt)) none h.3
 
 -- what is counted of values holds of the residuals
-pub width_counts : (whole : Bool) (book b step : ℕ) (offset : ℤ) (rs values : List ℤ) (o : Option ℕ) → (whole ≡ true → map (stepped step) values ≡ rs) → (whole ≡ false → (n : ℕ) → TakeBits book b offset step rs n → ⊥)
+pub width_counts : (whole : Bool) (book b step : ℕ) (offset : ℤ) (rs values : List ℤ) (o : Option ℕ)
+    → (whole ≡ true → map (stepped step) values ≡ rs) → (whole ≡ false → (n : ℕ) → TakeBits book b offset step rs n → ⊥)
     → (whole ≡ true → Counts book b offset step (map (stepped step) values) o) → (whole ≡ false → o ≡ None) → Counts book b offset step rs o
 width_counts true book b step offset rs values o all some is none = subst (λ (xs : List ℤ). Counts book b offset step xs o) (all refl) (is refl)
 width_counts false book b step offset rs values o all some is none = subst (λ (x : Option ℕ). Counts book b offset step rs x) (sym (none refl)) (some refl)
 
 -- one more place of a list is filled
-pub filled_more : (P : ℕ → Option ℕ → Type 0) (xs : List (Option ℕ)) (i : ℕ) (x : Option ℕ) → i < length xs → ((j : ℕ) → j < i → P j (get_or xs j None)) → P i x → (j : ℕ) → j < i + 1 → P j (get_or (set xs i x) j None)
+pub filled_more : (P : ℕ → Option ℕ → Type 0) (xs : List (Option ℕ)) (i : ℕ) (x : Option ℕ) → i < length xs
+    → ((j : ℕ) → j < i → P j (get_or xs j None)) → P i x → (j : ℕ) → j < i + 1 → P j (get_or (set xs i x) j None)
 filled_more P xs i x lt before here j below = elim (cases_lt j i) [
   | inl less ↦
       let other : j ≢ i = λ e. absurd (omega (arith, less, e)) in

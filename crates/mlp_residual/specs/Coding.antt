@@ -47,7 +47,8 @@ length_of book b value = length ((code_with book b).spelling value)
 -- the residuals have codes, which take so many bits in all
 unfoldable pub TakeBits : ℕ → ℕ → ℤ → ℕ → List ℤ → ℕ → Type 0
 TakeBits book b offset step [] n = n ≡ 0
-TakeBits book b offset step (r ∷ rs) n = (code : Code) × (m : ℕ) × Spells book b offset step r code × TakeBits book b offset step rs m × (n ≡ length_of book b code + m)
+TakeBits book b offset step (r ∷ rs) n = (code : Code) × (m : ℕ) × Spells book b offset step r code
+    × TakeBits book b offset step rs m × (n ≡ length_of book b code + m)
 
 -- a count says how many bits the residuals take, or that they don't all have codes
 abbrev pub Counts : ℕ → ℕ → ℤ → ℕ → List ℤ → Option ℕ → Type 0

@@ -98,6 +98,8 @@ abbrev pub IsCoded : ChannelCode → Type 0
 IsCoded c = (c.book ≤ 3) × (c.low ≤ 31)
 
 -- what a function appended is what reading gives, and the reader stands behind it
-abbrev pub GivesBehind : {A : Type 0} → List A → List A → Cursor → Cursor → Result (Unit {0}) Broken → Read (List A) → Type 0
-GivesBehind before after old new (Ok done) read = (with_front before read ≡ Ok (after, new.place)) × (new.all ≡ old.all) × (old.place ≤ new.place)
+abbrev pub GivesBehind : {A : Type 0} → List A → List A → Cursor
+    → Cursor → Result (Unit {0}) Broken → Read (List A) → Type 0
+GivesBehind before after old new (Ok done) read =
+    (with_front before read ≡ Ok (after, new.place)) × (new.all ≡ old.all) × (old.place ≤ new.place)
 GivesBehind before after old new (Err e) read = read ≡ Err e

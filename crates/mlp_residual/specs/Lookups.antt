@@ -38,7 +38,8 @@ codes_looked_up ls = series (code_at (map channel_of ls)) (length ls) []
 pub record IsWindow (window count : ℕ) (all : List Bool) (place : ℕ) : Type 0 where
   pub word : window < 2 ^ 64
   pub most : count ≤ 64
-  pub field : (from width : ℕ) → from + width ≤ count → window / 2 ^ (64 - from - width) % 2 ^ width ≡ number (take width (drop (place + from) all))
+  pub field : (from width : ℕ) → from + width ≤ count
+      → window / 2 ^ (64 - from - width) % 2 ^ width ≡ number (take width (drop (place + from) all))
 
 -- how many bits of the window there are for a code: those left, or those of a new window
 abbrev pub bits_for : Lookup → ℕ → ℕ

@@ -25,7 +25,8 @@ fn bits_of_value(lengths: &[u8], b: u8, base: i64, value: &i32) -> Option<u64>
     requires b { b < 32 }
     requires least { neg_ℤ (pos 65536) ≤ℤ base }
     requires most { base ≤ℤ pos 19327418368 }
-    ensures some { IfSome result (λ n. (symbol : ℕ) × (low : ℕ) × (symbol < length lengths.now) × (low < 2 ^ b) ×
+    ensures some { IfSome result
+        (λ n. (symbol : ℕ) × (low : ℕ) × (symbol < length lengths.now) × (low < 2 ^ b) ×
         (value.now +ℤ base ≡ pos (symbol * 2 ^ b + low)) × (n ≡ slice_index_or lengths.now symbol 0 + b)) }
     ensures none { IfNone result ((symbol low : ℕ) → symbol < length lengths.now → low < 2 ^ b →
         value.now +ℤ base ≡ pos (symbol * 2 ^ b + low) → ⊥) }

@@ -1,7 +1,7 @@
 //! Writing the frames of a block.
 //!
-//! Each call appends the text of its value, and answers `Full` exactly where the bits would pass 65,520; then the writer
-//! has its old bits and perhaps a part of the new ones, and isn't used again.
+//! Each call appends the text of its value, and answers `Full` exactly where the bits would pass 65,520; then the
+//! writer has its old bits and perhaps a part of the new ones, and isn't used again.
 ghost use Rattle.std.specs.Prelude.{◌≡◌, ◌≤◌, ◌<◌, ◌^◌, [], All, IsTrue, length, false};
 ghost use Rattle.mlp_layout.specs.Layout.{Layout, made, part, number_of};
 ghost use Rattle.mlp_layout.specs.Combined.{flag, chosen, series};

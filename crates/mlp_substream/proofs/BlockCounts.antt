@@ -81,7 +81,8 @@ unfolding nested
 nested_count [] cs = refl
 nested_count (h ∷ hs) cs = ap suc (nested_count hs _)
 
-pub segment_blocks : (place : Place) (known : Known) (force : Option State) (checked : Bool) (s : Segment) → IsPlace place → ForceFits place force → (segment place known force checked).Fits s → (segment place known force checked).Meets s → 8 * length s.blocks.items ≤ place.unit_frames
+pub segment_blocks : (place : Place) (known : Known) (force : Option State) (checked : Bool) (s : Segment) → IsPlace place → ForceFits place force
+    → (segment place known force checked).Fits s → (segment place known force checked).Meets s → 8 * length s.blocks.items ≤ place.unit_frames
 segment_blocks place known force checked s ok lawful fits meets =
     let at = first_context place force in
     let blocks = tail_blocks place known at checked s (has_tail place known force s checked fits) (meets_tail place known force s checked meets) in

@@ -28,7 +28,8 @@ made_of made (Err e) = Err e
 pub ending_made : {T R : Type 0} (field : Field) (width : ℕ) (last : Layout T) (made : Option T → R) (all : List Bool) (p : ℕ) → ending_read field width last made all p ≡ made_of made (ending_read field width last (λ t. t) all p)
 ending_made field width last made all p = go (eqb (length all) p) (eqb (length all) (p + width)) (last.read all p)
   where
-    go : (a b : Bool) (r : Read _) → cond a (done (made None)) (cond b (then_tail r (λ t. done (made (Some t.0)))) (Err (broken field p))) ≡ made_of made (cond a (done None) (cond b (then_tail r (λ t. done (Some t.0))) (Err (broken field p))))
+    go : (a b : Bool) (r : Read _) → cond a (done (made None)) (cond b (then_tail r (λ t. done (made (Some t.0)))) (Err (broken field p)))
+        ≡ made_of made (cond a (done None) (cond b (then_tail r (λ t. done (Some t.0))) (Err (broken field p))))
     go true b r = refl
     go false true (Ok x) = refl
     go false true (Err e) = refl
@@ -100,7 +101,8 @@ module _ {R : Type 0} (v : Whole R) (all : List Bool) where
 pub checked_long : (all : List Bool) → checks_fault all ≡ None → 32 ≤ length all
 checked_long all h = go (leb 32 (length all)) (parity_is parity_of all) (check_is check_of all) refl h
   where
-    go : (l p c : Bool) → leb 32 (length all) ≡ l → cond l (cond p (cond c none_of (Some (broken rule.SegmentCheck (length all - 8)))) (Some (broken rule.SegmentParity (length all - 16)))) (Some (short 0)) ≡ None → 32 ≤ length all
+    go : (l p c : Bool) → leb 32 (length all) ≡ l
+        → cond l (cond p (cond c none_of (Some (broken rule.SegmentCheck (length all - 8)))) (Some (broken rule.SegmentParity (length all - 16)))) (Some (short 0)) ≡ None → 32 ≤ length all
     go true p c e h = leb-true _ _ e
     go false p c e h = absurd cc
 

@@ -135,7 +135,8 @@ module _ (place : Place) (known : Known) (ok : IsPlace place) where
       record { fits = a.fits.1.1; meets = a.meets.1.1 } in
       (first, blocks_play n (after_head place force h) (so_far + h.frames) false (g ∷ hs) (drop h.frames cs) c.lawful later (codes_left h.frames (g ∷ hs) cs first.count e))
 
-tail_codes : (place : Place) (known : Known) (force : Option State) (checked : Bool) (s : Segment) → (segment_tail place known (first_context place force) checked).Fits 0 s → codes_of (nested s.blocks.items s.codes.items) ≡ s.codes.items
+tail_codes : (place : Place) (known : Known) (force : Option State) (checked : Bool) (s : Segment)
+    → (segment_tail place known (first_context place force) checked).Fits 0 s → codes_of (nested s.blocks.items s.codes.items) ≡ s.codes.items
 unfolding segment_tail part_tail placed ending
 tail_codes place known force checked s fits = ap (λ (r : Segment). r.codes.items) fits.1.1.1
 

@@ -84,18 +84,21 @@ at_is s t m n due e d = ap (λ (x : Option State). context_of x m due) e ∙ ap 
 abbrev pub with_blocks : Segment → List Block → Segment
 with_blocks s bs = record s { blocks = record { items = heads_of bs }; codes = record { items = codes_of bs } }
 
-filled : (before : Segment) (hs ks : List BlockHead) (cs ds : List FrameCode) → hs ≡ ks → cs ≡ ds → record before { blocks = record { items = hs }; codes = record { items = cs } } ≡ record before { blocks = record { items = ks }; codes = record { items = ds } }
+filled : (before : Segment) (hs ks : List BlockHead) (cs ds : List FrameCode) → hs ≡ ks → cs ≡ ds
+    → record before { blocks = record { items = hs }; codes = record { items = cs } } ≡ record before { blocks = record { items = ks }; codes = record { items = ds } }
 filled before hs ks cs ds e d = ap (λ (xs : List BlockHead). seg xs cs) e ∙ ap (λ (xs : List FrameCode). seg ks xs) d
   where
     seg : List BlockHead → List FrameCode → Segment
     seg xs ys = record before { blocks = record { items = xs }; codes = record { items = ys } }
 
 -- with the heads and frames that are left of those that stand there
-pub out_filled : (out before : Segment) (bs : List Block) (hs : List BlockHead) (cs : List FrameCode) → out ≡ record before { blocks = out.blocks; codes = out.codes } → hs ≡ heads_of bs → cs ≡ codes_of bs → record out { blocks = record { items = hs }; codes = record { items = cs } } ≡ with_blocks before bs
+pub out_filled : (out before : Segment) (bs : List Block) (hs : List BlockHead) (cs : List FrameCode) → out ≡ record before { blocks = out.blocks; codes = out.codes }
+    → hs ≡ heads_of bs → cs ≡ codes_of bs → record out { blocks = record { items = hs }; codes = record { items = cs } } ≡ with_blocks before bs
 out_filled out before bs hs cs rest e d = ap (λ (s : Segment). record s { blocks = record { items = hs }; codes = record { items = cs } }) rest ∙ filled before hs (heads_of bs) cs (codes_of bs) e d
 
 -- with the blocks behind those that were read, and all else as it was
-pub rest_stays : (next out before : Segment) → next ≡ record out { blocks = next.blocks; codes = next.codes } → out ≡ record before { blocks = out.blocks; codes = out.codes } → next ≡ record before { blocks = next.blocks; codes = next.codes }
+pub rest_stays : (next out before : Segment) → next ≡ record out { blocks = next.blocks; codes = next.codes }
+    → out ≡ record before { blocks = out.blocks; codes = out.codes } → next ≡ record before { blocks = next.blocks; codes = next.codes }
 rest_stays next out before e d = e ∙ ap (λ (s : Segment). record s { blocks = next.blocks; codes = next.codes }) d
 
 pub no_front : {A : Type 0} (r : Read (List A)) → with_front [] r ≡ r
@@ -117,7 +120,8 @@ least_size s h = leb-true 8 s.block_size (first_of (leb 8 s.block_size) (leb s.b
     first_of false b e = absurd cc
 
 -- without anything in force no frames are read
-pub least_frames : (place : Place) (force : Option State) (l : State → Layout (List FrameCode)) (all : List Bool) (q r : ℕ) (fs : List FrameCode) → ForceFits place force → (against force l).read all q ≡ Ok (fs, r) → 8 ≤ block_size_in force
+pub least_frames : (place : Place) (force : Option State) (l : State → Layout (List FrameCode)) (all : List Bool) (q r : ℕ) (fs : List FrameCode)
+    → ForceFits place force → (against force l).read all q ≡ Ok (fs, r) → 8 ≤ block_size_in force
 unfolding against never
 least_frames place None l all q r fs h e = absurd cc
 least_frames place (Some s) l all q r fs h e = least_size s h.lawful

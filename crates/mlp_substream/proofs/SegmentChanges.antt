@@ -109,7 +109,8 @@ heads_of-nested [] cs = refl
 heads_of-nested (h ∷ hs) cs = ap (λ (xs : List BlockHead). h ∷ xs) (heads_of-nested hs (drop h.frames cs))
 
 made_same : (hs is : List BlockHead) (cs ds : List FrameCode) (padding : ℕ) (t : Option ℕ) (c d : Bool) → hs ≡ is → cs ≡ ds → c ≡ d
-    → (let r : Segment = record { blocks = record { items = hs }; codes = record { items = cs }; padding = padding; terminator = t; checked = c } in r ≡ record { blocks = record { items = is }; codes = record { items = ds }; padding = padding; terminator = t; checked = d })
+    → (let r : Segment = record { blocks = record { items = hs }; codes = record { items = cs }; padding = padding; terminator = t; checked = c } in
+    r ≡ record { blocks = record { items = is }; codes = record { items = ds }; padding = padding; terminator = t; checked = d })
 made_same hs is cs ds padding t c d h k e = rw (h, k, e) refl
 
 checks_long : (a b : List Bool) → length a ≡ length b → length (a ++ (bits 8 (parity_of a) ++ bits 8 (check_of a))) ≡ length (b ++ (bits 8 (parity_of b) ++ bits 8 (check_of b)))
@@ -146,7 +147,8 @@ module _ (place : Place) (k m : Known) (f g : Option State) (s : Segment) (hs : 
       let there = w.allowed (record { fits = fits.0; meets = meets.0 }) in
       let padding = subst (λ (n : ℕ). s.padding < 2 ^ padding_width (0 + n)) (sym w.long) fits.1.0 in
       let codes = codes_are ∙ ap (λ (r : Segment). r.codes.items) fits.1.1.1 in
-      let same = made_same (heads_of (nested hs s.codes.items)) hs (codes_of (nested hs s.codes.items)) s.codes.items s.padding s.terminator checked s.checked (heads_of-nested hs s.codes.items) codes (ap (λ (r : Segment). r.checked) fits.1.1.1) in
+      let same = made_same (heads_of (nested hs s.codes.items)) hs (codes_of (nested hs s.codes.items)) s.codes.items s.padding s.terminator checked s.checked
+      (heads_of-nested hs s.codes.items) codes (ap (λ (r : Segment). r.checked) fits.1.1.1) in
       ((there.fits, (padding, (fits.1.1.0, same))), (there.meets, meets.1))
 
   pub segment_long : (checked : Bool) → length ((segment place m g checked).spelling (with_heads hs s)) ≡ length ((segment place k f checked).spelling s)

@@ -46,11 +46,13 @@ unfolding terminator fixed part ruled number_of
 terminator_long format word fits = omega (arith, length-append (bits 16 0xD234) (bits 16 word), length-bits 16 0xD234, length-bits 16 word)
 
 -- values up to a last one have at least one bit
-some_bits : {S A : Type 0} (value : S → Layout A) (after : S → A → S) (n : ℕ) (s : S) (xs : List A) → (up_to_last value after rule.BlockOverrun n s).Fits xs → 1 ≤ length ((up_to_last value after rule.BlockOverrun n s).spelling xs)
+some_bits : {S A : Type 0} (value : S → Layout A) (after : S → A → S) (n : ℕ) (s : S) (xs : List A)
+    → (up_to_last value after rule.BlockOverrun n s).Fits xs → 1 ≤ length ((up_to_last value after rule.BlockOverrun n s).spelling xs)
 unfolding up_to_last never item part flag seen number_of
 some_bits value after zero s xs fits = absurd fits
 some_bits value after (suc n) s [] fits = absurd fits
-some_bits {S} {A} value after (suc n) s (x ∷ xs) fits = long ((value s).spelling x) (flag.spelling (is_empty xs)) ((chosen (is_empty xs) (made []) (up_to_last value after rule.BlockOverrun n (after s x))).spelling xs) (one_bit (is_empty xs))
+some_bits {S} {A} value after (suc n) s (x ∷ xs) fits =
+    long ((value s).spelling x) (flag.spelling (is_empty xs)) ((chosen (is_empty xs) (made []) (up_to_last value after rule.BlockOverrun n (after s x))).spelling xs) (one_bit (is_empty xs))
   where
     one_bit : (b : Bool) → 1 ≤ length (flag.spelling b)
     one_bit true = omega (arith, length-bits 1 1)
@@ -88,7 +90,8 @@ module _ (place : Place) where
   unfolding the_rest
   rest_is bs checked = placed_is (λ here. part_tail_is (λ s. s.padding) (number_of_is (padding_width here)) (end_is bs checked) (padding_set bs checked (padding_width here)))
 
-  nested_set : (known : Known) (at : BlockContext) (checked : Bool) (bs : List Block) (here : ℕ) (s : Segment) → (blocks_from place known most_blocks at).Fits bs → (the_rest bs checked).Fits here s → nested s.blocks.items s.codes.items ≡ bs
+  nested_set : (known : Known) (at : BlockContext) (checked : Bool) (bs : List Block) (here : ℕ) (s : Segment)
+      → (blocks_from place known most_blocks at).Fits bs → (the_rest bs checked).Fits here s → nested s.blocks.items s.codes.items ≡ bs
   unfolding the_rest the_end whole_record ending placed part_tail
   nested_set known at checked bs here s h fits =
       let heads : s.blocks.items ≡ heads_of bs = ap (λ (r : Segment). r.blocks.items) (sym fits.1.1) in

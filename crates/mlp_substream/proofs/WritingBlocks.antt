@@ -22,7 +22,8 @@ abbrev pub rest_of : Place → Known → ℕ → BlockContext → List Block →
 rest_of place known n at bs = chosen (is_empty bs) (made []) (blocks_from place known n at)
 
 module _ (place : Place) (known : Known) where
-  rest_starts : (n : ℕ) (at : BlockContext) (bs : List Block) → Allowed (blocks_from place known n at) bs → Allowed (rest_of place known n at bs) bs × ((rest_of place known n at bs).spelling bs ≡ (blocks_from place known n at).spelling bs)
+  rest_starts : (n : ℕ) (at : BlockContext) (bs : List Block) → Allowed (blocks_from place known n at) bs
+      → Allowed (rest_of place known n at bs) bs × ((rest_of place known n at bs).spelling bs ≡ (blocks_from place known n at).spelling bs)
   unfolding up_to_last never item chosen
   rest_starts zero at bs a = absurd a.fits
   rest_starts (suc n) at [] a = absurd a.fits
@@ -101,7 +102,8 @@ module _ (place : Place) (known : Known) (first now : Option State) (hs : List B
     blocks_left = ap (λ (xs : List BlockHead). nested xs (drop start cs)) heads_left ∙ ap (λ (ys : List FrameCode). block_here ∷ nested (drop (i + 1) hs) ys) (drop-drop h.frames start cs)
 
     here : Next place known g.turns (context_of now start g.due) block_here (left_blocks hs cs (i + 1) (start + h.frames))
-    here = next place known g.turns (context_of now start g.due) block_here (left_blocks hs cs (i + 1) (start + h.frames)) (subst (λ (bs : List Block). Allowed (rest_of place known g.turns (context_of now start g.due) bs) bs) blocks_left g.allowed)
+    here = next place known g.turns (context_of now start g.due) block_here
+        (left_blocks hs cs (i + 1) (start + h.frames)) (subst (λ (bs : List Block). Allowed (rest_of place known g.turns (context_of now start g.due) bs) bs) blocks_left g.allowed)
 
     pub block_allowed : Allowed (block place known (context_of now start g.due)) block_here
     block_allowed = here.first
@@ -122,7 +124,8 @@ module _ (place : Place) (known : Known) (first now : Option State) (hs : List B
     so_far_here : SoFar old w (text_here ++ later_text) text
     so_far_here =
         let bs = left_blocks hs cs (i + 1) (start + h.frames) in
-        let whole = ap (λ (xs : List Block). (rest_of place known g.turns (context_of now start g.due) xs).spelling xs) blocks_left ∙ here.text ∙ ap (λ (b : Bool). ((block place known (context_of now start g.due)).spelling block_here ++ flag.spelling b) ++ later_text) last_is in
+        let whole = ap (λ (xs : List Block). (rest_of place known g.turns (context_of now start g.due) xs).spelling xs) blocks_left ∙ here.text
+        ∙ ap (λ (b : Bool). ((block place known (context_of now start g.due)).spelling block_here ++ flag.spelling b) ++ later_text) last_is in
         subst (λ (t : List Bool). SoFar old w t text) whole g.so_far
 
     pub going_stops : (v : List Bool) → Filled w v text_here → Filled old v text

@@ -48,7 +48,8 @@ module _ (place : Place) (known : Known) (at : BlockContext) (checked : Bool) (s
 
   pub tail_words : (segment_tail place known at checked).Fits 0 s → length ((segment_tail place known at checked).spelling 0 s) % 16 ≡ 0
   unfolding segment_tail part_tail placed number_of ending
-  tail_words fits = whole blocks_text (bits (padding_width (0 + length blocks_text)) s.padding) (spelling_as (terminator place.format).spelling s.terminator) (length-bits (padding_width (0 + length blocks_text)) s.padding) (last_long s.terminator fits.1.1.0)
+  tail_words fits = whole blocks_text (bits (padding_width (0 + length blocks_text)) s.padding) (spelling_as (terminator place.format).spelling s.terminator)
+      (length-bits (padding_width (0 + length blocks_text)) s.padding) (last_long s.terminator fits.1.1.0)
     where
       whole : (text padding last : List Bool) → length padding ≡ padding_width (0 + length text) → length last % 16 ≡ 0 → length (text ++ (padding ++ last)) % 16 ≡ 0
       whole text padding last h k = omega (arith, length-append text (padding ++ last), length-append padding last)
@@ -95,7 +96,8 @@ module _ (place : Place) (known : Known) (force : Option State) (s : Segment) wh
   written_bits false bytes small = ap bits_of (append-nil bytes)
   written_bits true bytes small =
       let two : bits_of (segment_parity_of bytes ∷ check8_of bytes ∷ []) ≡ bits 8 (segment_parity_of bytes) ++ bits 8 (check8_of bytes) = two_bytes (segment_parity_of bytes) (check8_of bytes) in
-      let same : bits 8 (segment_parity_of bytes) ++ bits 8 (check8_of bytes) ≡ bits 8 (parity_of (bits_of bytes)) ++ bits 8 (check_of (bits_of bytes)) = ap (λ (b : List ℕ). bits 8 (segment_parity_of b) ++ bits 8 (check8_of b)) (sym (bytes_of-bits bytes small)) in
+      let same : bits 8 (segment_parity_of bytes) ++ bits 8 (check8_of bytes) ≡ bits 8 (parity_of (bits_of bytes)) ++ bits 8 (check_of (bits_of bytes)) =
+      ap (λ (b : List ℕ). bits 8 (segment_parity_of b) ++ bits 8 (check8_of b)) (sym (bytes_of-bits bytes small)) in
       bits_of-append bytes (segment_parity_of bytes ∷ check8_of bytes ∷ []) ∙ ap (λ (t : List Bool). bits_of bytes ++ t) (two ∙ same)
 
   module _ (checked : Bool) (bytes : List ℕ) (small : AreBytes bytes) (text_is : bits_of bytes ≡ (segment_tail place known (first_context place force) checked).spelling 0 s) where

@@ -75,12 +75,14 @@ head_parts place known due force h a = record {
 }
 
 pub head_text : (place : Place) (known : Known) (due : Bool) (force : Option State) (h : BlockHead)
-    → (let f : Bool × Bool = (is_some h.params, is_some h.restart) in (flags due).spelling f) ++ ((present (is_some h.restart) (judged_restart known place.format)).spelling h.restart ++ (present (is_some h.params) (against (restarted place force h.restart) params)).spelling h.params)
+    → (let f : Bool × Bool = (is_some h.params, is_some h.restart) in (flags due).spelling f)
+    ++ ((present (is_some h.restart) (judged_restart known place.format)).spelling h.restart ++ (present (is_some h.params) (against (restarted place force h.restart) params)).spelling h.params)
     ≡ (head place known due force).spelling h
 unfolding head behind_flags part made
 head_text place known due force h =
     let f : Bool × Bool = (is_some h.params, is_some h.restart) in
-    ap (λ (t : List Bool). (flags due).spelling f ++ ((present (is_some h.restart) (judged_restart known place.format)).spelling h.restart ++ t)) (sym (append-nil ((present (is_some h.params) (against (restarted place force h.restart) params)).spelling h.params)))
+    ap (λ (t : List Bool). (flags due).spelling f ++ ((present (is_some h.restart) (judged_restart known place.format)).spelling h.restart ++ t))
+    (sym (append-nil ((present (is_some h.params) (against (restarted place force h.restart) params)).spelling h.params)))
 
 -- ---- a block
 
@@ -99,6 +101,7 @@ block_parts place known at b a = record {
   frames = a.fits.1.0;
 }
 
-pub block_text : (place : Place) (known : Known) (at : BlockContext) (b : Block) → (head place known at.due at.force).spelling b.head ++ (against (after_head place at.force b.head) (λ s. frames_of s b.head.frames)).spelling b.frames ≡ (block place known at).spelling b
+pub block_text : (place : Place) (known : Known) (at : BlockContext) (b : Block) → (head place known at.due at.force).spelling b.head
+    ++ (against (after_head place at.force b.head) (λ s. frames_of s b.head.frames)).spelling b.frames ≡ (block place known at).spelling b
 unfolding block part tested made
 block_text place known at b = ap (λ (t : List Bool). (head place known at.due at.force).spelling b.head ++ t) (sym (append-nil ((against (after_head place at.force b.head) (λ s. frames_of s b.head.frames)).spelling b.frames)))

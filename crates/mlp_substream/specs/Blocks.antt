@@ -78,10 +78,15 @@ unfoldable pub behind_flags : Place → Known → Option State → Bool × Bool 
 behind_flags place known force f =
     part (present f.1 (judged_restart known place.format)) (λ h. h.restart) (λ restart.
     part (present f.0 (against (restarted place force restart) params)) (λ h. h.params) (λ params.
-    made (record { restart = restart; params = params; frames = block_size_in (option_map (given params) (restarted place force restart)) })))
+    made (record {
+      restart = restart;
+      params = params;
+      frames = block_size_in (option_map (given params) (restarted place force restart));
+    })))
 
 unfoldable pub head : Place → Known → Bool → Option State → Layout BlockHead
-head place known due force = part (flags due) (λ h. (is_some h.params, is_some h.restart)) (behind_flags place known force)
+head place known due force =
+    part (flags due) (λ h. (is_some h.params, is_some h.restart)) (behind_flags place known force)
 
 unfoldable pub block : Place → Known → BlockContext → Layout Block
 block place known at =

@@ -9,7 +9,8 @@ use Rattle.mlp_bits.specs.Checks.{segment_parity_of, check8_of}
 
 -- the bytes that the bits are
 unfoldable pub bytes_of : List Bool → List ℕ
-bytes_of (a ∷ b ∷ c ∷ d ∷ e ∷ f ∷ g ∷ h ∷ bits) = number (a ∷ b ∷ c ∷ d ∷ e ∷ f ∷ g ∷ h ∷ []) ∷ bytes_of bits
+bytes_of (a ∷ b ∷ c ∷ d ∷ e ∷ f ∷ g ∷ h ∷ bits) =
+    number (a ∷ b ∷ c ∷ d ∷ e ∷ f ∷ g ∷ h ∷ []) ∷ bytes_of bits
 bytes_of bits = []
 
 abbrev pub parity_of : List Bool → ℕ

@@ -13,7 +13,8 @@ use Rattle.mlp_residual.specs.Frames.{steps_fit}
 use Rattle.mlp_substream.specs.declared.known.Place.{Place}
 use Rattle.mlp_substream.specs.Blocks.{against, restarted, after_head}
 
--- a head fits what is in force before it: its restart meets the rules, and so do its parameters against what the restart leaves
+-- a head fits what is in force before it: its restart meets the rules,
+-- and so do its parameters against what the restart leaves
 pub record HeadFits (place : Place) (force : Option State) (h : BlockHead) : Type 0 where
   pub restart : IfSome h.restart (λ r. Allowed (restart place.format) r)
   pub params : IfSome h.params (λ p. Allowed (against (restarted place force h.restart) params) p)
@@ -23,8 +24,10 @@ pub record AreCoded (s : State) (codes : List FrameCode) : Type 0 where
   pub steps : IsTrue (steps_fit s)
   pub channels : All (λ f. array_vec_len f.codes ≡ s.restart.max + 1 - s.restart.min) codes
 
--- a block of these frames, eight at least: it has a restart exactly where one is due, and something is in force behind its head
-pub record IsPlayable (place : Place) (due : Bool) (force : Option State) (h : BlockHead) (frames : List FrameCode) : Type 0 where
+-- a block of these frames, eight at least: it has a restart exactly where one is due,
+-- and something is in force behind its head
+pub record IsPlayable (place : Place) (due : Bool) (force : Option State)
+    (h : BlockHead) (frames : List FrameCode) : Type 0 where
   pub restarts : is_some h.restart ≡ due
   pub head : HeadFits place force h
   pub least : 8 ≤ h.frames
@@ -35,4 +38,5 @@ pub record IsPlayable (place : Place) (due : Bool) (force : Option State) (h : B
 unfoldable pub ArePlayable : Place → Bool → Option State → List BlockHead → List FrameCode → Type 0
 ArePlayable place due force [] codes = codes ≡ []
 ArePlayable place due force (h ∷ hs) codes =
-    IsPlayable place due force h (take h.frames codes) × ArePlayable place false (after_head place force h) hs (drop h.frames codes)
+    IsPlayable place due force h (take h.frames codes)
+    × ArePlayable place false (after_head place force h) hs (drop h.frames codes)

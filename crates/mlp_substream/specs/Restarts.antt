@@ -11,11 +11,12 @@ use Rattle.mlp_substream.specs.declared.known.Known.{Known}
 
 -- ---- the flags with which a block begins
 
--- A parameter flag, and behind one that is 1 a restart flag. The restart flag is 1 exactly where a restart is due, which is in
--- the first block of a unit with a major sync.
+-- A parameter flag, and behind one that is 1 a restart flag. The restart flag is 1 exactly where a restart is due,
+-- which is in the first block of a unit with a major sync.
 unfoldable pub flags : Bool → Layout (Bool × Bool)
 flags due =
-    under (must rule.RestartMissing (λ f. f.1 || not due) ∷ must_at 1 rule.RestartPlace (λ f. not f.1 || due) ∷ [])
+    under (must rule.RestartMissing (λ f. f.1 || not due)
+    ∷ must_at 1 rule.RestartPlace (λ f. not f.1 || due) ∷ [])
     (part flag (λ f. f.0) (λ given.
     part (chosen given flag (made false)) (λ f. f.1) (λ restarts.
     made (given, restarts))))

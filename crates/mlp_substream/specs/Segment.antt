@@ -41,7 +41,8 @@ is_fba Fbb = false
 
 -- two words, of which the record has the second; in an MLP stream that is the first again
 unfoldable pub terminator : Kind → Layout ℕ
-terminator format = fixed 16 0xD234 rule.Terminator (ruled (must rule.Terminator (λ word. is_fba format || (word == 0xD234))) (number_of 16))
+terminator format = fixed 16 0xD234 rule.Terminator
+    (ruled (must rule.Terminator (λ word. is_fba format || (word == 0xD234))) (number_of 16))
 
 -- the bits up to the next multiple of 16
 abbrev pub padding_width : ℕ → ℕ
@@ -55,19 +56,22 @@ same_end (Some e) s = if is_some s.terminator then e.terminator else not e.termi
 -- as many frames as a unit has, or any number with a terminator; and as many as substream 0 has
 abbrev pub frames_fit : Option Ending → ℕ → Segment → Bool
 frames_fit None unit s = (length s.codes.items == unit) || is_some s.terminator
-frames_fit (Some e) unit s = ((length s.codes.items == unit) || is_some s.terminator) && (length s.codes.items == e.frames)
+frames_fit (Some e) unit s =
+    ((length s.codes.items == unit) || is_some s.terminator) && (length s.codes.items == e.frames)
 
 abbrev pub terminator_bits : Segment → ℕ
 terminator_bits s = if is_some s.terminator then 32 else 0
 
--- the first rule at the end that fails, and its place among so many bits: behind the padding, or the segment's first bit
+-- the first rule at the end that fails, and its place among so many bits: behind the padding,
+-- or the segment's first bit
 abbrev pub end_fault : Bool → Bool → ℕ → Option (Field × ℕ)
 end_fault false frames place = Some (rule.TerminatorMixed, place)
 end_fault true false place = Some (rule.FrameCount, 0)
 end_fault true true place = None
 
 unfoldable pub end_rules : Known → ℕ → EndJudge Segment
-end_rules known unit all s = end_fault (same_end known.first s) (frames_fit known.first unit s) (all - terminator_bits s)
+end_rules known unit all s =
+    end_fault (same_end known.first s) (frames_fit known.first unit s) (all - terminator_bits s)
 
 -- ---- the segment
 
@@ -86,15 +90,23 @@ module _ (place : Place) where
       placed (λ here.
       part_tail (number_of (padding_width here)) (λ s. s.padding) (λ padding.
       ending rule.SegmentEnd 32 (terminator place.format) (λ s. s.terminator) (λ terminator.
-      record { blocks = record { items = heads_of bs }; codes = record { items = codes_of bs }; padding = padding; terminator = terminator; checked = checked }))))
+      record {
+        blocks = record { items = heads_of bs };
+        codes = record { items = codes_of bs };
+        padding = padding;
+        terminator = terminator;
+        checked = checked;
+      }))))
 
   -- the fields, and the rules at the end
   unfoldable pub segment_text : Known → Option State → Bool → Whole Segment
-  segment_text known force checked = judged_at_end (end_rules known place.unit_frames) (whole_text (segment_tail known (first_context place force) checked))
+  segment_text known force checked = judged_at_end (end_rules known place.unit_frames)
+      (whole_text (segment_tail known (first_context place force) checked))
 
   -- a segment against what is in force at its start; checks are tried before its fields are read
   unfoldable pub segment : Known → Option State → Bool → Whole Segment
-  segment known force checked = chosen_whole checked (checked_first parity_of check_of (segment_text known force true)) (segment_text known force false)
+  segment known force checked = chosen_whole checked
+      (checked_first parity_of check_of (segment_text known force true)) (segment_text known force false)
 
 -- nothing is known from elsewhere
 abbrev pub unknown : Known

@@ -41,7 +41,8 @@ fn read_codes(
     requires first { first ≤ array_vec_len codes.old }
     requires room { first + count ≤ 160 }
     ensures enough { OnOk result (first + count ≤ length codes.new.items) }
-    ensures read { GivesBehind (take first codes.old.items) (take (first + count) codes.new.items) r.old r.new result ((against state.now (λ s. frames_of s count)).read r.old.all r.old.place) }
+    ensures read { GivesBehind (take first codes.old.items) (take (first + count) codes.new.items)
+        r.old r.new result ((against state.now (λ s. frames_of s count)).read r.old.all r.old.place) }
 {
     match state {
         None => Err(broken(Field::RestartMissing, r.place())),
@@ -49,7 +50,8 @@ fn read_codes(
     }
 }
 
-/// A block behind so many frames. What its head gives is put in force, and its frames stand in place of those behind them.
+/// A block behind so many frames. What its head gives is put in force,
+/// and its frames stand in place of those behind them.
 fn read_block(
     place: &Place,
     known: &Known,
@@ -65,13 +67,16 @@ fn read_block(
     requires first { first ≤ length codes.old.items }
     requires few { first ≤ place.now.unit_frames }
     ensures read { MatchResult result
-        (λ _. (fs : List FrameCode) × ((block place.now known.now (context_of state.old first due)).read r.old.all r.old.place ≡ Ok (record { head = head.new; frames = fs }, r.new.place))
+        (λ _. (fs : List FrameCode)
+        × ((block place.now known.now (context_of state.old first due)).read r.old.all r.old.place
+        ≡ Ok (record { head = head.new; frames = fs }, r.new.place))
         × (take (first + head.new.frames) codes.new.items ≡ take first codes.old.items ++ fs))
         (λ e. (block place.now known.now (context_of state.old first due)).read r.old.all r.old.place ≡ Err e) }
     ensures moved { OnOk result ((r.new.all ≡ r.old.all) × (r.old.place ≤ r.new.place)) }
     ensures force { OnOk result (state.new ≡ after_head place.now state.old head.new) }
     ensures state { OnOk result (ForceFits place.now state.new) }
-    ensures count { OnOk result ((first + head.new.frames ≤ length codes.new.items) × (8 ≤ head.new.frames) × (first + head.new.frames ≤ place.now.unit_frames)) }
+    ensures count { OnOk result ((first + head.new.frames ≤ length codes.new.items)
+        × (8 ≤ head.new.frames) × (first + head.new.frames ≤ place.now.unit_frames)) }
 {
     read_head(place, known, due, state, r, head)?;
     let at = r.place();
@@ -104,7 +109,9 @@ fn read_block_behind(
     requires first { first ≤ length out.old.codes.items }
     requires few { first ≤ place.now.unit_frames }
     ensures read { MatchResult result
-        (λ frames. (h : BlockHead) × (fs : List FrameCode) × ((block place.now known.now (context_of state.old first due)).read r.old.all r.old.place ≡ Ok (record { head = h; frames = fs }, r.new.place))
+        (λ frames. (h : BlockHead) × (fs : List FrameCode)
+        × ((block place.now known.now (context_of state.old first due)).read r.old.all r.old.place
+        ≡ Ok (record { head = h; frames = fs }, r.new.place))
         × (take (count + 1) out.new.blocks.items ≡ take count out.old.blocks.items ++ h ∷ [])
         × (take frames out.new.codes.items ≡ take first out.old.codes.items ++ fs)
         × (state.new ≡ after_head place.now state.old h)
@@ -141,7 +148,8 @@ fn read_beyond(
     requires first { first ≤ length codes.old.items }
     requires few { first ≤ place.now.unit_frames }
     requires full { place.now.unit_frames < first + 8 }
-    ensures read { IfErr result (λ e. (block place.now known.now (context_of state.old first due)).read r.old.all r.old.place ≡ Err e) }
+    ensures read { IfErr result
+        (λ e. (block place.now known.now (context_of state.old first due)).read r.old.all r.old.place ≡ Err e) }
     ensures fails { IsErr result }
 {
     let mut head = BlockHead::default();
@@ -159,10 +167,14 @@ pub fn read_blocks(
     requires place { IsPlace place.now }
     requires state { ForceFits place.now state.old }
     ensures read { MatchResult result
-        (λ _. (bs : List Block) × ((blocks_from place.now known.now most_blocks (first_context place.now state.old)).read r.old.all r.old.place ≡ Ok (bs, r.new.place))
-        × (out.new ≡ record out.old { blocks = record { items = heads_of bs }; codes = record { items = codes_of bs } })
+        (λ _. (bs : List Block)
+        × ((blocks_from place.now known.now most_blocks (first_context place.now state.old)).read
+        r.old.all r.old.place ≡ Ok (bs, r.new.place))
+        × (out.new
+        ≡ record out.old { blocks = record { items = heads_of bs }; codes = record { items = codes_of bs } })
         × (state.new ≡ force_after place.now state.old (heads_of bs)))
-        (λ e. (blocks_from place.now known.now most_blocks (first_context place.now state.old)).read r.old.all r.old.place ≡ Err e) }
+        (λ e. (blocks_from place.now known.now most_blocks (first_context place.now state.old)).read
+        r.old.all r.old.place ≡ Err e) }
     ensures moved { OnOk result ((r.new.all ≡ r.old.all) × (r.old.place ≤ r.new.place)) }
     ensures state { OnOk result (ForceFits place.now state.new) }
 {

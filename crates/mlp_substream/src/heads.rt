@@ -1,4 +1,5 @@
-//! Reading the head of a block, and putting in force what it gives. Source: the MLP substream syntax as publicly documented.
+//! Reading the head of a block, and putting in force what it gives.
+//! Source: the MLP substream syntax as publicly documented.
 ghost use Rattle.std.specs.Prelude.{◌≡◌, ◌≤◌, IfOk, IfSome, OnOk, option_map};
 ghost use Rattle.mlp_layout.specs.Reading.{Gives};
 ghost use Rattle.mlp_layout.specs.Combined.{present};
@@ -25,7 +26,8 @@ fn read_restart_if(
     format: Kind,
     r: &mut BitReader,
 ) -> Result<Option<Restart>, Broken>
-    ensures read { Gives (λ x. x) r.old r.new result ((present there (judged_restart known.now format)).read r.old.all r.old.place) }
+    ensures read { Gives (λ x. x) r.old r.new result
+        ((present there (judged_restart known.now format)).read r.old.all r.old.place) }
     ensures allowed { IfOk result (λ o. IfSome o (λ h. Allowed (restart format) h)) }
 {
     if !there {
@@ -61,7 +63,8 @@ fn read_params_if(
     out: &mut Option<Params>,
 ) -> Result<(), Broken>
     requires { IfSome state.now (λ s. IsState s) }
-    ensures read { Gives (λ _. out.new) r.old r.new result ((present there (against state.now params)).read r.old.all r.old.place) }
+    ensures read { Gives (λ _. out.new) r.old r.new result
+        ((present there (against state.now params)).read r.old.all r.old.place) }
     ensures allowed { OnOk result (IfSome out.new (λ p. IfSome state.now (λ s. Allowed (params s) p))) }
 {
     if !there {
@@ -110,7 +113,8 @@ pub fn read_head(
 ) -> Result<(), Broken>
     requires place { IsPlace place.now }
     requires state { ForceFits place.now state.old }
-    ensures read { Gives (λ _. out.new) r.old r.new result ((head place.now known.now due state.old).read r.old.all r.old.place) }
+    ensures read { Gives (λ _. out.new) r.old r.new result
+        ((head place.now known.now due state.old).read r.old.all r.old.place) }
     ensures force { OnOk result (state.new ≡ after_head place.now state.old out.new) }
     ensures frames { OnOk result (out.new.frames ≡ block_size_in state.new) }
     ensures state { OnOk result (ForceFits place.now state.new) }

@@ -1,4 +1,5 @@
-//! Reading the flags and the restart with which a block begins. Source: the MLP substream syntax as publicly documented.
+//! Reading the flags and the restart with which a block begins.
+//! Source: the MLP substream syntax as publicly documented.
 ghost use Rattle.std.specs.Prelude.{◌≡◌, ◌+◌, ◌≤◌, ◌<◌, ◌||◌, ◌&&◌, nat_le, is_some, IfOk, IfSome};
 ghost use Rattle.mlp_bits.specs.Bits.{bit};
 ghost use Rattle.mlp_layout.specs.Reading.{Gives};

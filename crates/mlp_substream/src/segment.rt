@@ -27,8 +27,10 @@ fn read_fields(
     requires place { IsPlace place.now }
     requires state { ForceFits place.now state.old }
     ensures read { MatchResult result
-        (λ _. (whole_text (segment_tail place.now known.now (first_context place.now state.old) out.old.checked)).read (bits_of bytes.now) ≡ Ok out.new)
-        (λ e. (whole_text (segment_tail place.now known.now (first_context place.now state.old) out.old.checked)).read (bits_of bytes.now) ≡ Err e) }
+        (λ _. (whole_text (segment_tail place.now known.now (first_context place.now state.old) out.old.checked)).read
+        (bits_of bytes.now) ≡ Ok out.new)
+        (λ e. (whole_text (segment_tail place.now known.now (first_context place.now state.old) out.old.checked)).read
+        (bits_of bytes.now) ≡ Err e) }
     ensures force { OnOk result (state.new ≡ force_after place.now state.old out.new.blocks.items) }
     ensures state { OnOk result (ForceFits place.now state.new) }
 {
@@ -115,9 +117,9 @@ fn read_whole(
 
 /// Reads a segment into `out`, whose blocks and frames are replaced, by what is known of it from elsewhere.
 ///
-/// At Ok `state` is what is in force behind it. The fault is the first rule that fails: of the checks, of the blocks one
-/// after the other, of what follows them. Its bit is counted from the segment's first. `state` and `out` are of no use
-/// then.
+/// At Ok `state` is what is in force behind it. The fault is the first rule that fails: of the checks, of the blocks
+/// one after the other, of what follows them. Its bit is counted from the segment's first. `state` and `out` are of no
+/// use then.
 pub fn read_segment_into(
     place: &Place,
     known: &Known,
@@ -134,7 +136,8 @@ pub fn read_segment_into(
         (λ e. (segment place.now known.now state.old checked).read (bits_of bytes.now) ≡ Err e) }
     ensures force { OnOk result (state.new ≡ force_after place.now state.old out.new.blocks.items) }
     ensures state { OnOk result (ForceFits place.now state.new) }
-    ensures playable { OnOk result (ArePlayable place.now place.now.major state.old out.new.blocks.items out.new.codes.items) }
+    ensures playable { OnOk result
+        (ArePlayable place.now place.now.major state.old out.new.blocks.items out.new.codes.items) }
 {
     read_whole(place, known, state, bytes, checked, out)
 }
@@ -157,7 +160,8 @@ pub fn read_segment(
         (λ e. (segment place.now unknown state.old checked).read (bits_of bytes.now) ≡ Err e) }
     ensures force { IfOk result (λ s. state.new ≡ force_after place.now state.old s.blocks.items) }
     ensures state { OnOk result (ForceFits place.now state.new) }
-    ensures playable { IfOk result (λ s. ArePlayable place.now place.now.major state.old s.blocks.items s.codes.items) }
+    ensures playable { IfOk result
+        (λ s. ArePlayable place.now place.now.major state.old s.blocks.items s.codes.items) }
 {
     let known = Known {
         max_matrix: None,

@@ -29,7 +29,8 @@ fn write_terminator(second: Option<u16>, w: &mut BitWriter) -> Result<(), Full>
 /// The bits up to the next multiple of 16, and the terminator.
 fn write_end(padding: u16, second: Option<u16>, w: &mut BitWriter) -> Result<(), Full>
     requires { padding < 2 ^ padding_width (length w.old) }
-    ensures { (format : Kind) → Writes w.old w.new result (bits (padding_width (length w.old)) padding ++ spelling_as (terminator_layout format).spelling second) }
+    ensures { (format : Kind) → Writes w.old w.new result
+        (bits (padding_width (length w.old)) padding ++ spelling_as (terminator_layout format).spelling second) }
 {
     let width = (16 - w.place() % 16) % 16;
     put_number(u32::from(padding), width, w)?;
@@ -46,9 +47,12 @@ fn write_fields(
     requires empty { w.old ≡ [] }
     requires place { IsPlace place.now }
     requires state { ForceFits place.now state.old }
-    requires fits { (segment_tail place.now unknown (first_context place.now state.old) segment.now.checked).Fits 0 segment.now }
-    requires meets { (segment_tail place.now unknown (first_context place.now state.old) segment.now.checked).Meets 0 segment.now }
-    ensures text { Writes w.old w.new result ((segment_tail place.now unknown (first_context place.now state.old) segment.now.checked).spelling 0 segment.now) }
+    requires fits { (segment_tail place.now unknown
+        (first_context place.now state.old) segment.now.checked).Fits 0 segment.now }
+    requires meets { (segment_tail place.now unknown
+        (first_context place.now state.old) segment.now.checked).Meets 0 segment.now }
+    ensures text { Writes w.old w.new result ((segment_tail place.now unknown
+        (first_context place.now state.old) segment.now.checked).spelling 0 segment.now) }
     ensures force { OnOk result (state.new ≡ force_after place.now state.old segment.now.blocks.items) }
     ensures state { OnOk result (ForceFits place.now state.new) }
 {
@@ -62,7 +66,8 @@ fn push_segment(bytes: &[u8], checked: bool, out: &mut UnitBytes) -> Result<(), 
     requires few { length bytes.now ≤ 8190 }
     ensures too_long { IsErr result ↔ (8190 < length out.old.items + length bytes.now + (if checked then 2 else 0)) }
     ensures kept { OnErr result (out.new ≡ out.old) }
-    ensures appended { OnOk result (out.new.items ≡ out.old.items ++ (bytes.now ++ (if checked then segment_parity_of bytes.now ∷ check8_of bytes.now ∷ [] else []))) }
+    ensures appended { OnOk result (out.new.items ≡ out.old.items
+        ++ (bytes.now ++ (if checked then segment_parity_of bytes.now ∷ check8_of bytes.now ∷ [] else []))) }
 {
     let checks = if checked { 2 } else { 0 };
     if out.len() + bytes.len() + checks > 8190 {
@@ -76,8 +81,8 @@ fn push_segment(bytes: &[u8], checked: bool, out: &mut UnitBytes) -> Result<(), 
     Ok(())
 }
 
-/// Appends the one spelling of a segment, with its check bytes where it has them. `state` is what is in force before it,
-/// and at Ok what is in force behind it.
+/// Appends the one spelling of a segment, with its check bytes where it has them. `state` is what is in force before
+/// it, and at Ok what is in force behind it.
 ///
 /// `UnitTooLong` comes exactly where the bytes would pass 8190; then `out` is unchanged, and `state` is of no use.
 pub fn write_segment(
@@ -90,9 +95,11 @@ pub fn write_segment(
     requires state { ForceFits place.now state.old }
     requires fits { (segment_layout place.now unknown state.old segment.now.checked).Fits segment.now }
     requires meets { (segment_layout place.now unknown state.old segment.now.checked).Meets segment.now }
-    ensures too_long { IsErr result ↔ (65520 < length (bits_of out.old.items ++ (segment_layout place.now unknown state.old segment.now.checked).spelling segment.now)) }
+    ensures too_long { IsErr result ↔ (65520 < length (bits_of out.old.items
+        ++ (segment_layout place.now unknown state.old segment.now.checked).spelling segment.now)) }
     ensures kept { OnErr result (out.new ≡ out.old) }
-    ensures appended { OnOk result (bits_of out.new.items ≡ bits_of out.old.items ++ (segment_layout place.now unknown state.old segment.now.checked).spelling segment.now) }
+    ensures appended { OnOk result (bits_of out.new.items ≡ bits_of out.old.items
+        ++ (segment_layout place.now unknown state.old segment.now.checked).spelling segment.now) }
     ensures force { OnOk result (state.new ≡ force_after place.now state.old segment.now.blocks.items) }
     ensures state { OnOk result (ForceFits place.now state.new) }
 {

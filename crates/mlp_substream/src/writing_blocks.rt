@@ -1,7 +1,7 @@
 //! Writing the blocks of a segment.
 //!
-//! Each call appends the text of its value, and answers `Full` exactly where the bits would pass 65,520; then the writer
-//! has its old bits and perhaps a part of the new ones, and isn't used again.
+//! Each call appends the text of its value, and answers `Full` exactly where the bits would pass 65,520; then the
+//! writer has its old bits and perhaps a part of the new ones, and isn't used again.
 ghost use Rattle.std.specs.Prelude.{◌≡◌, ◌++◌, ℕ, Bool, true, length, IfSome, OnOk};
 ghost use Rattle.mlp_syntax.specs.declared.fault.Field.TheVariants.{BlockOverrun};
 ghost use Rattle.mlp_layout.specs.Combined.{flag};
@@ -26,7 +26,8 @@ fn write_codes(state: &Option<State>, frames: &[FrameCode], w: &mut BitWriter) -
     requires state { IfSome state.now (λ s. IsState s) }
     requires steps { steps_fit_in state.now ≡ true }
     requires frames { (against state.now (λ s. frames_of s (length frames.now))).Fits frames.now }
-    ensures { Writes w.old w.new result ((against state.now (λ s. frames_of s (length frames.now))).spelling frames.now) }
+    ensures { Writes w.old w.new result
+        ((against state.now (λ s. frames_of s (length frames.now))).spelling frames.now) }
 {
     match state {
         None => put_all(&[], w),
@@ -44,8 +45,12 @@ fn write_block(
 ) -> Result<(), Full>
     requires place { IsPlace place.now }
     requires state { ForceFits place.now state.old }
-    requires block { (so_far : ℕ) × (due : Bool) × Allowed (block_layout place.now unknown (context_of state.old so_far due)) (record { head = head.now; frames = frames.now }) }
-    ensures text { (so_far : ℕ) (due : Bool) → Writes w.old w.new result ((block_layout place.now unknown (context_of state.old so_far due)).spelling (record { head = head.now; frames = frames.now })) }
+    requires block { (so_far : ℕ) × (due : Bool)
+        × Allowed (block_layout place.now unknown (context_of state.old so_far due))
+        (record { head = head.now; frames = frames.now }) }
+    ensures text { (so_far : ℕ) (due : Bool)
+        → Writes w.old w.new result ((block_layout place.now unknown (context_of state.old so_far due)).spelling
+        (record { head = head.now; frames = frames.now })) }
     ensures force { OnOk result (state.new ≡ after_head place.now state.old head.now) }
     ensures state { OnOk result (ForceFits place.now state.new) }
 {
@@ -64,8 +69,12 @@ fn write_marked(
 ) -> Result<(), Full>
     requires place { IsPlace place.now }
     requires state { ForceFits place.now state.old }
-    requires block { (so_far : ℕ) × (due : Bool) × Allowed (block_layout place.now unknown (context_of state.old so_far due)) (record { head = head.now; frames = frames.now }) }
-    ensures text { (so_far : ℕ) (due : Bool) → Writes w.old w.new result ((block_layout place.now unknown (context_of state.old so_far due)).spelling (record { head = head.now; frames = frames.now }) ++ flag.spelling last) }
+    requires block { (so_far : ℕ) × (due : Bool)
+        × Allowed (block_layout place.now unknown (context_of state.old so_far due))
+        (record { head = head.now; frames = frames.now }) }
+    ensures text { (so_far : ℕ) (due : Bool)
+        → Writes w.old w.new result ((block_layout place.now unknown (context_of state.old so_far due)).spelling
+        (record { head = head.now; frames = frames.now }) ++ flag.spelling last) }
     ensures force { OnOk result (state.new ≡ after_head place.now state.old head.now) }
     ensures state { OnOk result (ForceFits place.now state.new) }
 {
@@ -83,8 +92,11 @@ pub fn write_blocks(
 ) -> Result<(), Full>
     requires place { IsPlace place.now }
     requires state { ForceFits place.now state.old }
-    requires blocks { Allowed (blocks_from place.now unknown most_blocks (first_context place.now state.old)) (nested heads.now codes.now) }
-    ensures text { Writes w.old w.new result ((blocks_from place.now unknown most_blocks (first_context place.now state.old)).spelling (nested heads.now codes.now)) }
+    requires blocks { Allowed (blocks_from place.now unknown most_blocks (first_context place.now state.old))
+        (nested heads.now codes.now) }
+    ensures text { Writes w.old w.new result
+        ((blocks_from place.now unknown most_blocks (first_context place.now state.old)).spelling
+        (nested heads.now codes.now)) }
     ensures force { OnOk result (state.new ≡ force_after place.now state.old heads.now) }
     ensures state { OnOk result (ForceFits place.now state.new) }
 {

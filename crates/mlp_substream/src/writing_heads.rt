@@ -1,7 +1,8 @@
-//! Writing the head of a block, and putting in force what it gives. Source: the MLP substream syntax as publicly documented.
+//! Writing the head of a block, and putting in force what it gives.
+//! Source: the MLP substream syntax as publicly documented.
 //!
-//! Each call appends the text of its value, and answers `Full` exactly where the bits would pass 65,520; then the writer
-//! has its old bits and perhaps a part of the new ones, and isn't used again.
+//! Each call appends the text of its value, and answers `Full` exactly where the bits would pass 65,520; then the
+//! writer has its old bits and perhaps a part of the new ones, and isn't used again.
 ghost use Rattle.std.specs.Prelude.{◌≡◌, Bool, is_some, IfSome, OnOk};
 ghost use Rattle.mlp_syntax.specs.declared.major.Kind.{Kind};
 ghost use Rattle.mlp_layout.specs.Combined.{present};
@@ -23,7 +24,8 @@ use mlp_syntax::{BlockHead, Params, Restart};
 /// The parameter flag, and behind one that is set the restart flag. Without parameters there is no restart.
 #[tactic(auto, unfolding(mlp_layout::specs::Layout::made, mlp_layout::specs::Combined::chosen))]
 fn write_flags(given: bool, restarts: bool, w: &mut BitWriter) -> Result<(), Full>
-    ensures { (due : Bool) → let f : Bool × Bool = (given, restarts) in Writes w.old w.new result ((flags due).spelling f) }
+    ensures { (due : Bool) → let f : Bool × Bool = (given, restarts) in
+        Writes w.old w.new result ((flags due).spelling f) }
 {
     put_flag(given, w)?;
     if given {
@@ -37,7 +39,8 @@ fn write_flags(given: bool, restarts: bool, w: &mut BitWriter) -> Result<(), Ful
 #[tactic(auto, unfolding(mlp_layout::specs::Layout::seen, mlp_layout::specs::Layout::made, mlp_layout::specs::Layout::ruled, mlp_layout::specs::Combined::chosen, mlp_layout::specs::Combined::present, mlp_layout::specs::Combined::under, crate::specs::Restarts::judged_restart))]
 fn write_restart_if(header: &Option<Restart>, w: &mut BitWriter) -> Result<(), Full>
     requires { (format : Kind) × (present (is_some header.now) (judged_restart unknown format)).Fits header.now }
-    ensures { (format : Kind) → Writes w.old w.new result ((present (is_some header.now) (judged_restart unknown format)).spelling header.now) }
+    ensures { (format : Kind) → Writes w.old w.new result
+        ((present (is_some header.now) (judged_restart unknown format)).spelling header.now) }
 {
     match header {
         None => put_all(&[], w),
@@ -75,7 +78,8 @@ pub fn write_head(
     requires place { IsPlace place.now }
     requires state { ForceFits place.now state.old }
     requires head { (due : Bool) × Allowed (head_layout place.now unknown due state.old) head.now }
-    ensures text { (due : Bool) → Writes w.old w.new result ((head_layout place.now unknown due state.old).spelling head.now) }
+    ensures text { (due : Bool)
+        → Writes w.old w.new result ((head_layout place.now unknown due state.old).spelling head.now) }
     ensures force { OnOk result (state.new ≡ after_head place.now state.old head.now) }
     ensures state { OnOk result (ForceFits place.now state.new) }
 {

@@ -5,4 +5,5 @@ pub returns : goal.returns
 returns c =
     let first = c.in-Ok-Ok.ensures in
     let second = c.in-Ok-Ok.ensures' in
-    rw (c.from.ensures, c.from-2.ensures) (wide_is c.args.r.now c.take.new.self c.take-2.new.self c.in-Ok-Ok.high c.in-Ok-Ok.low c.place-place.ensures.within first.moved second.moved first.value second.value first.fits (λ lt. second.short.1 lt))
+    rw (c.from.ensures, c.from-2.ensures)
+    (wide_is c.args.r.now c.take.new.self c.take-2.new.self c.in-Ok-Ok.high c.in-Ok-Ok.low c.place-place.ensures.within first.moved second.moved first.value second.value first.fits (λ lt. second.short.1 lt))

@@ -16,7 +16,12 @@ loop-preserved c =
     let i = c.loop.invariant in
     let read = c.in_ok-row.ensures in
     let on = goes_on (row c.args.restart.now) c.loop.rows.items c.args.count c.loop.counter c.loop.r.all c.loop.r.place c.read_row.new.r.place c.in_ok-row.row _ c.loop-test.true read.0 i.so_far in
-    record { moved = omega (arith, i.moved, read.2); so_far = rw (c.push.ensures.items, read.1) on; same_bits = read.1 ∙ i.same_bits; count = rw c.push.ensures.items (omega (arith, length_push c.loop.rows.items c.in_ok-row.row, i.count)) }
+    record {
+      moved = omega (arith, i.moved, read.2);
+      so_far = rw (c.push.ensures.items, read.1) on;
+      same_bits = read.1 ∙ i.same_bits;
+      count = rw c.push.ensures.items (omega (arith, length_push c.loop.rows.items c.in_ok-row.row, i.count));
+    }
 
 pub returns : goal.returns
 returns c =

@@ -15,14 +15,16 @@ pub returns-then-not-have_steps_fit-clause-read : goal.returns-then-not-have_ste
 returns-then-not-have_steps_fit-clause-read c =
     let h = c.in_ok-read_head.ensures in
     let late = ap steps_fit_in (sym h.force) ∙ sym c.have_steps_fit.ensures ∙ c.if-not-have_steps_fit.true in
-    rw (c.broken.ensures, c.place-at.ensures.value) (block_step_fails c.args.place.now c.args.known.now (context_of c.args.state.now c.args.first c.args.due) c.args.r.now.all c.args.r.now.place c.read_head.new.out c.read_head.new.r.place h.read.0 late)
+    rw (c.broken.ensures, c.place-at.ensures.value)
+    (block_step_fails c.args.place.now c.args.known.now (context_of c.args.state.now c.args.first c.args.due) c.args.r.now.all c.args.r.now.place c.read_head.new.out c.read_head.new.r.place h.read.0 late)
 
 pub returns-then-first-from-clause-read : goal.returns-then-first-from-clause-read
 returns-then-first-from-clause-read c =
     let h = c.in_ok-read_head.ensures in
     let fit = ap steps_fit_in (sym h.force) ∙ sym c.have_steps_fit.ensures ∙ c.if-not-have_steps_fit.false in
     let full : c.args.place.now.unit_frames < c.args.first + c.read_head.new.out.frames = omega arith in
-    rw (c.broken-then-first-from.ensures, c.place-at.ensures.value) (block_overruns c.args.place.now c.args.known.now (context_of c.args.state.now c.args.first c.args.due) c.args.r.now.all c.args.r.now.place c.read_head.new.out c.read_head.new.r.place h.read.0 fit full)
+    rw (c.broken-then-first-from.ensures, c.place-at.ensures.value)
+    (block_overruns c.args.place.now c.args.known.now (context_of c.args.state.now c.args.first c.args.due) c.args.r.now.all c.args.r.now.place c.read_head.new.out c.read_head.new.r.place h.read.0 fit full)
 
 pub returns-in_err-read_codes-clause-read : goal.returns-in_err-read_codes-clause-read
 returns-in_err-read_codes-clause-read c =
@@ -33,7 +35,8 @@ returns-in_err-read_codes-clause-read c =
     let room : c.args.first + n ≤ c.args.place.now.unit_frames = omega arith in
     let here = subst (λ (b : List Bool). (against c.read_head.new.state (λ s. frames_of s n)).read b c.read_head.new.r.place ≡ Err c.in_err-read_codes.field-0.0) h.read.1 c.in_err-read_codes.ensures.read in
     let there = subst (λ (s : Option State). (against s (λ s. frames_of s n)).read c.args.r.now.all c.read_head.new.r.place ≡ Err c.in_err-read_codes.field-0.0) h.force here in
-    rw (p.1, p.2) (block_frames_fail c.args.place.now c.args.known.now (context_of c.args.state.now c.args.first c.args.due) c.args.r.now.all c.args.r.now.place c.read_head.new.out c.read_head.new.r.place h.read.0 fit room c.in_err-read_codes.field-0.0 there)
+    rw (p.1, p.2) (block_frames_fail c.args.place.now c.args.known.now (context_of c.args.state.now c.args.first c.args.due) c.args.r.now.all
+    c.args.r.now.place c.read_head.new.out c.read_head.new.r.place h.read.0 fit room c.in_err-read_codes.field-0.0 there)
 
 pub returns-clause-read : goal.returns-clause-read
 returns-clause-read c =
@@ -43,8 +46,12 @@ returns-clause-read c =
     let room : c.args.first + n ≤ c.args.place.now.unit_frames = omega arith in
     let more = appended (take c.args.first c.args.codes.now.items) (take (c.args.first + c.read_head.new.out.frames) c.read_codes.new.codes.items) c.read_codes.new.r.place _ c.in_ok-read_codes.ensures.read.0 in
     let here = subst (λ (b : List Bool). (against c.read_head.new.state (λ s. frames_of s n)).read b c.read_head.new.r.place ≡ Ok (more.items, c.read_codes.new.r.place)) h.read.1 more.read_is in
-    let there = subst (λ (s : Option State). (against s (λ s. frames_of s n)).read c.args.r.now.all c.read_head.new.r.place ≡ Ok (more.items, c.read_codes.new.r.place)) h.force here in
-    (more.items, block_reads c.args.place.now c.args.known.now (context_of c.args.state.now c.args.first c.args.due) c.args.r.now.all c.args.r.now.place c.read_head.new.out c.read_head.new.r.place h.read.0 fit room more.items c.read_codes.new.r.place there, more.after_is)
+    let there = subst (λ (s : Option State). (against s (λ s. frames_of s n)).read c.args.r.now.all c.read_head.new.r.place ≡ Ok (more.items, c.read_codes.new.r.place)) h.force here in (
+      more.items,
+      block_reads c.args.place.now c.args.known.now (context_of c.args.state.now c.args.first c.args.due) c.args.r.now.all
+          c.args.r.now.place c.read_head.new.out c.read_head.new.r.place h.read.0 fit room more.items c.read_codes.new.r.place there,
+      more.after_is,
+    )
 
 pub returns-clause-count : goal.returns-clause-count
 returns-clause-count c =

@@ -16,7 +16,8 @@ use Rattle.mlp_substream.proofs.ReadingLaws.{at_is, no_front, force_starts, out_
 use Rattle.mlp_substream.proofs.blocks.read_blocks.Goals as goal
 
 -- one fewer of the turns that are left
-fewer : (place : Place) (known : Known) (n m : ℕ) (at : BlockContext) (front : List Block) (all : List Bool) (p : ℕ) (total : Read (List Block)) → n ≡ m → ValuesContinue (block place known) (after_block place) BlockOverrun n at front all p total → ValuesContinue (block place known) (after_block place) BlockOverrun m at front all p total
+fewer : (place : Place) (known : Known) (n m : ℕ) (at : BlockContext) (front : List Block) (all : List Bool) (p : ℕ) (total : Read (List Block)) → n ≡ m
+    → ValuesContinue (block place known) (after_block place) BlockOverrun n at front all p total → ValuesContinue (block place known) (after_block place) BlockOverrun m at front all p total
 fewer place known n m at front all p total e h = subst (λ (k : ℕ). ValuesContinue (block place known) (after_block place) BlockOverrun k at front all p total) e h
 
 only_err : {A E : Type 0} (r : Result A E) (P : A → Type 0) (Q R : E → Type 0) → IsErr r → IfErr r Q → ((e : E) → Q e → R e) → MatchResult r P R
@@ -73,7 +74,8 @@ returns-in_err-last-clause-read c =
     let b = c.in_ok-frames.ensures.read in
     let one : Block = record { head = b.0; frames = b.1 } in
     let no-flag = subst (λ (all : List Bool). flag.read all c.read_block_behind.new.r.place ≡ Err c.in_err-last.field-0.0) c.in_ok-frames.ensures.moved.0 c.in_err-last.ensures in
-    rw (p.1, p.2) (bit_stops (block c.args.place.now c.args.known.now) (after_block c.args.place.now) BlockOverrun n at i.done c.loop-count.r.all c.loop-count.r.place _ here one c.read_block_behind.new.r.place b.2 c.in_err-last.field-0.0 no-flag)
+    rw (p.1, p.2) (bit_stops (block c.args.place.now c.args.known.now)
+    (after_block c.args.place.now) BlockOverrun n at i.done c.loop-count.r.all c.loop-count.r.place _ here one c.read_block_behind.new.r.place b.2 c.in_err-last.field-0.0 no-flag)
 
 pub returns-then-last-clause-read : goal.returns-then-last-clause-read
 returns-then-last-clause-read c =
@@ -90,7 +92,8 @@ returns-then-last-clause-read c =
     let heads = b.3 ∙ ap (λ (hs : List BlockHead). hs ++ b.0 ∷ []) i.heads_are ∙ sym (heads_of-push i.done one) in
     let codes = b.4 ∙ ap (λ (cs : List FrameCode). cs ++ b.1) i.codes_are ∙ sym (codes_of-push i.done one) in
     let rest = rest_stays out c.loop-count.out c.args.out.now c.read_block_behind.ensures.rest i.rest_is in
-    let force = b.5 ∙ ap (λ (s : Option State). after_head c.args.place.now s b.0) i.force_is ∙ sym (force_after-push c.args.place.now c.args.state.now (heads_of i.done) b.0) ∙ ap (force_after c.args.place.now c.args.state.now) (sym (heads_of-push i.done one)) in (
+    let force = b.5 ∙ ap (λ (s : Option State). after_head c.args.place.now s b.0) i.force_is ∙ sym (force_after-push c.args.place.now c.args.state.now (heads_of i.done) b.0)
+    ∙ ap (force_after c.args.place.now c.args.state.now) (sym (heads_of-push i.done one)) in (
       more,
       is_last (block c.args.place.now c.args.known.now) (after_block c.args.place.now) BlockOverrun n at i.done c.loop-count.r.all c.loop-count.r.place _ here one c.read_block_behind.new.r.place b.2 c.flag.new.r.place last,
       out_filled out c.args.out.now more c.truncate.new.self.items c.truncate-then-last.new.self.items rest (c.truncate.ensures.items ∙ heads) (c.truncate-then-last.ensures.items ∙ codes),
@@ -120,7 +123,8 @@ returns-clause-read c =
     let i = c.loop-count.invariant in
     let at = context_of c.loop-count.state c.loop-count.frames c.loop-count.due in
     let here = fewer c.args.place.now c.args.known.now (21 - c.loop-count.count) 1 at i.done c.loop-count.r.all c.loop-count.r.place _ (omega arith) i.so_far in
-    only_err c.read_beyond.result _ _ _ c.read_beyond.ensures.fails c.read_beyond.ensures.read (λ e h. value_stops (block c.args.place.now c.args.known.now) (after_block c.args.place.now) BlockOverrun 0 at i.done c.loop-count.r.all c.loop-count.r.place _ here e h)
+    only_err c.read_beyond.result _ _ _ c.read_beyond.ensures.fails c.read_beyond.ensures.read
+    (λ e h. value_stops (block c.args.place.now c.args.known.now) (after_block c.args.place.now) BlockOverrun 0 at i.done c.loop-count.r.all c.loop-count.r.place _ here e h)
 
 pub loop-count-preserved : goal.loop-count-preserved
 loop-count-preserved c =
@@ -141,14 +145,16 @@ loop-count-preserved c =
     let same = at_is (after_head c.args.place.now c.loop-count.state b.0) c.read_block_behind.new.state (c.loop-count.frames + b.0.frames) c.in_ok-frames.frames false (sym b.5) (sym b.6) in
     let here = subst (λ (a : BlockContext). ValuesContinue (block c.args.place.now c.args.known.now) (after_block c.args.place.now) BlockOverrun n a more c.loop-count.r.all c.flag.new.r.place total) same on in
     let bits-are = c.in_ok-last.ensures.1 ∙ e.moved.0 in
-    let there = subst (λ (all : List Bool). ValuesContinue (block c.args.place.now c.args.known.now) (after_block c.args.place.now) BlockOverrun n (context_of c.read_block_behind.new.state c.in_ok-frames.frames false) more all c.flag.new.r.place total) (sym bits-are) here in
+    let there = subst (λ (all : List Bool). ValuesContinue (block c.args.place.now c.args.known.now) (after_block c.args.place.now) BlockOverrun n
+    (context_of c.read_block_behind.new.state c.in_ok-frames.frames false) more all c.flag.new.r.place total) (sym bits-are) here in
     record {
       done = more;
       so_far = there;
       rest_is = rest_stays out c.loop-count.out c.args.out.now e.rest i.rest_is;
       heads_are = b.3 ∙ ap (λ (hs : List BlockHead). hs ++ b.0 ∷ []) i.heads_are ∙ sym (heads_of-push i.done one);
       codes_are = b.4 ∙ ap (λ (cs : List FrameCode). cs ++ b.1) i.codes_are ∙ sym (codes_of-push i.done one);
-      force_is = b.5 ∙ ap (λ (s : Option State). after_head c.args.place.now s b.0) i.force_is ∙ sym (force_after-push c.args.place.now c.args.state.now (heads_of i.done) b.0) ∙ ap (force_after c.args.place.now c.args.state.now) (sym (heads_of-push i.done one));
+      force_is = b.5 ∙ ap (λ (s : Option State). after_head c.args.place.now s b.0) i.force_is ∙ sym (force_after-push c.args.place.now c.args.state.now (heads_of i.done) b.0)
+          ∙ ap (force_after c.args.place.now c.args.state.now) (sym (heads_of-push i.done one));
       enough = e.heads;
       frames_enough = e.frames;
       few = e.few;

@@ -29,4 +29,5 @@ pub record SoFar (place : Place) (known : Known) (count frames : ℕ) (state fir
   pub moved : start.place ≤ r.place
 
 abbrev pub invariant-loop-count : goal.invariant-loop-count
-invariant-loop-count l = SoFar l.place l.known l.count l.frames l.state l.fn.state l.due l.r l.fn.r l.out l.fn.out ((up_to_last (block l.place l.known) (after_block l.place) BlockOverrun 21 (context_of l.fn.state 0 l.place.major)).read l.fn.r.all l.fn.r.place)
+invariant-loop-count l = SoFar l.place l.known l.count l.frames l.state l.fn.state l.due l.r l.fn.r l.out l.fn.out ((up_to_last
+    (block l.place l.known) (after_block l.place) BlockOverrun 21 (context_of l.fn.state 0 l.place.major)).read l.fn.r.all l.fn.r.place)

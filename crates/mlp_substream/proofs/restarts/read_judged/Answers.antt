@@ -28,4 +28,5 @@ unfolding judged_restart
 returns-in-Some-clause-read c =
     let r = c.args.r.now in
     let h = c.in_ok-header.ensures.read in
-    rw (c.broken.ensures, c.place-first.ensures.value) (under_fails r.all r.place (restart_rules c.args.known.now) (restart c.args.format) c.in_ok-header.header c.read_restart.new.r.place c.in-Some.field c.in-Some.behind h.0 (sym c.restart_fault.ensures.value ∙ c.in-Some.is))
+    rw (c.broken.ensures, c.place-first.ensures.value) (under_fails r.all r.place (restart_rules c.args.known.now)
+    (restart c.args.format) c.in_ok-header.header c.read_restart.new.r.place c.in-Some.field c.in-Some.behind h.0 (sym c.restart_fault.ensures.value ∙ c.in-Some.is))

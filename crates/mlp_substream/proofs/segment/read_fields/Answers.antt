@@ -31,8 +31,10 @@ returns-in_err-terminator-clause-read c =
     let q = c.read_blocks.new.r.place in
     let bits-are = c.in_ok-read_blocks.ensures.moved.0 ∙ ap (λ (r : Cursor). r.all) c.new-r.ensures in
     let k = subst (λ (all : List Bool). (number_of (padding_width q)).read all q ≡ Ok (c.in_ok-padding.padding, c.word.new.r.place)) bits-are (rw c.place.ensures.value at c.in_ok-padding.ensures.read.0) in
-    let l = subst (λ (all : List Bool). ending_read SegmentEnd 32 (terminator c.args.place.now.format) (λ (t : _). t) all c.word.new.r.place ≡ Err c.in_err-terminator.field-0.0) (c.in_ok-padding.ensures.read.1 ∙ bits-are) c.in_err-terminator.ensures in
-    rw (p.1, p.2) (tail_end_fails c.args.place.now c.args.known.now (context_of c.args.state.now 0 c.args.place.now.major) c.args.out.now.checked _ b.0 q (rw c.new-r.ensures at b.1) c.in_ok-padding.padding c.word.new.r.place k c.in_err-terminator.field-0.0 l)
+    let l = subst (λ (all : List Bool). ending_read SegmentEnd 32 (terminator c.args.place.now.format) (λ (t : _). t) all c.word.new.r.place ≡ Err c.in_err-terminator.field-0.0)
+    (c.in_ok-padding.ensures.read.1 ∙ bits-are) c.in_err-terminator.ensures in
+    rw (p.1, p.2) (tail_end_fails c.args.place.now c.args.known.now (context_of c.args.state.now 0 c.args.place.now.major) c.args.out.now.checked _ b.0 q
+    (rw c.new-r.ensures at b.1) c.in_ok-padding.padding c.word.new.r.place k c.in_err-terminator.field-0.0 l)
 
 pub returns-clause-read : goal.returns-clause-read
 returns-clause-read c =
@@ -40,6 +42,8 @@ returns-clause-read c =
     let q = c.read_blocks.new.r.place in
     let bits-are = c.in_ok-read_blocks.ensures.moved.0 ∙ ap (λ (r : Cursor). r.all) c.new-r.ensures in
     let k = subst (λ (all : List Bool). (number_of (padding_width q)).read all q ≡ Ok (c.in_ok-padding.padding, c.word.new.r.place)) bits-are (rw c.place.ensures.value at c.in_ok-padding.ensures.read.0) in
-    let l = subst (λ (all : List Bool). ending_read SegmentEnd 32 (terminator c.args.place.now.format) (λ (t : _). t) all c.word.new.r.place ≡ Ok c.in_ok-terminator.terminator) (c.in_ok-padding.ensures.read.1 ∙ bits-are) c.in_ok-terminator.ensures in
-    let read = tail_reads c.args.place.now c.args.known.now (context_of c.args.state.now 0 c.args.place.now.major) c.args.out.now.checked _ b.0 q (rw c.new-r.ensures at b.1) c.in_ok-padding.padding c.word.new.r.place k c.in_ok-terminator.terminator l in
+    let l = subst (λ (all : List Bool). ending_read SegmentEnd 32 (terminator c.args.place.now.format) (λ (t : _). t) all c.word.new.r.place ≡ Ok c.in_ok-terminator.terminator)
+    (c.in_ok-padding.ensures.read.1 ∙ bits-are) c.in_ok-terminator.ensures in
+    let read = tail_reads c.args.place.now c.args.known.now (context_of c.args.state.now 0 c.args.place.now.major) c.args.out.now.checked _ b.0 q
+    (rw c.new-r.ensures at b.1) c.in_ok-padding.padding c.word.new.r.place k c.in_ok-terminator.terminator l in
     read ∙ ap (λ (s : Segment). Ok (record s { padding = c.in_ok-padding.padding; terminator = c.in_ok-terminator.terminator })) (sym b.2)

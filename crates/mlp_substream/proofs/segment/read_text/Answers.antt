@@ -17,14 +17,18 @@ pub returns-in_err-read_fields-clause-read : goal.returns-in_err-read_fields-cla
 unfolding segment_text
 returns-in_err-read_fields-clause-read c =
     let p = err_from_is_err_and c.from_residual.result c.from_residual.ensures.1 in
-    rw (p.1, p.2) (end_fails (end_rules c.args.known.now c.args.place.now.unit_frames) (whole_text (segment_tail c.args.place.now c.args.known.now (context_of c.args.state.now 0 c.args.place.now.major) c.args.out.now.checked)) (bits_of c.args.bytes.now) c.in_err-read_fields.field-0.0 c.in_err-read_fields.ensures.read)
+    rw (p.1, p.2) (end_fails (end_rules c.args.known.now c.args.place.now.unit_frames) (whole_text (segment_tail c.args.place.now c.args.known.now (context_of c.args.state.now 0 c.args.place.now.major) c.args.out.now.checked))
+    (bits_of c.args.bytes.now) c.in_err-read_fields.field-0.0 c.in_err-read_fields.ensures.read)
 
 pub returns-in-None-clause-read : goal.returns-in-None-clause-read
 unfolding segment_text
 returns-in-None-clause-read c =
-    end_meets (end_rules c.args.known.now c.args.place.now.unit_frames) (whole_text (segment_tail c.args.place.now c.args.known.now (context_of c.args.state.now 0 c.args.place.now.major) c.args.out.now.checked)) (bits_of c.args.bytes.now) c.read_fields.new.out c.in_ok-read_fields.ensures.read (at_size c.args.known.now c.args.place.now.unit_frames c.args.bytes.now c.read_fields.new.out ∙ sym c.end_fault.ensures ∙ c.in-None.is)
+    end_meets (end_rules c.args.known.now c.args.place.now.unit_frames) (whole_text (segment_tail c.args.place.now c.args.known.now (context_of c.args.state.now 0 c.args.place.now.major) c.args.out.now.checked))
+    (bits_of c.args.bytes.now) c.read_fields.new.out c.in_ok-read_fields.ensures.read (at_size c.args.known.now c.args.place.now.unit_frames c.args.bytes.now c.read_fields.new.out ∙ sym c.end_fault.ensures ∙ c.in-None.is)
 
 pub returns-in-Some-clause-read : goal.returns-in-Some-clause-read
 unfolding segment_text
 returns-in-Some-clause-read c =
-    rw c.broken.ensures (end_breaks (end_rules c.args.known.now c.args.place.now.unit_frames) (whole_text (segment_tail c.args.place.now c.args.known.now (context_of c.args.state.now 0 c.args.place.now.major) c.args.out.now.checked)) (bits_of c.args.bytes.now) c.read_fields.new.out (c.in-Some.field, c.in-Some.bit) c.in_ok-read_fields.ensures.read (at_size c.args.known.now c.args.place.now.unit_frames c.args.bytes.now c.read_fields.new.out ∙ sym c.end_fault.ensures ∙ c.in-Some.is))
+    rw c.broken.ensures (end_breaks (end_rules c.args.known.now c.args.place.now.unit_frames) (whole_text (segment_tail c.args.place.now c.args.known.now (context_of c.args.state.now 0 c.args.place.now.major) c.args.out.now.checked))
+    (bits_of c.args.bytes.now) c.read_fields.new.out (c.in-Some.field, c.in-Some.bit) c.in_ok-read_fields.ensures.read
+    (at_size c.args.known.now c.args.place.now.unit_frames c.args.bytes.now c.read_fields.new.out ∙ sym c.end_fault.ensures ∙ c.in-Some.is))

@@ -6,7 +6,8 @@ use Rattle.mlp_substream.proofs.writing.write_fields.Goals as goal
 use Rattle.mlp_substream.specs.Blocks.{context_of}
 
 pub write_blocks-requires-clause-blocks : goal.write_blocks-requires-clause-blocks
-write_blocks-requires-clause-blocks c = rw (c.deref.ensures.0, c.deref-2.ensures.0) (tail_blocks c.args.place.now unknown (context_of c.args.state.now 0 c.args.place.now.major) c.args.segment.now.checked c.args.segment.now c.requires.fits c.requires.meets)
+write_blocks-requires-clause-blocks c =
+    rw (c.deref.ensures.0, c.deref-2.ensures.0) (tail_blocks c.args.place.now unknown (context_of c.args.state.now 0 c.args.place.now.major) c.args.segment.now.checked c.args.segment.now c.requires.fits c.requires.meets)
 
 pub returns-in_err-write_blocks-clause-text : goal.returns-in_err-write_blocks-clause-text
 returns-in_err-write_blocks-clause-text c =

@@ -33,7 +33,8 @@ write_codes-requires-clause-frames c =
     let b : Block = record { head = c.args.head.now; frames = c.args.frames.now } in
     let at = context_of c.args.state.now c.requires.block.0 c.requires.block.1 in
     let a = c.requires.block.2 in
-    let counted = subst (λ (n : ℕ). (against (after_head c.args.place.now c.args.state.now b.head) (λ s. frames_of s n)).Fits b.frames) (sym (block_fits c.args.place.now unknown at b a.fits)) (block_parts c.args.place.now unknown at b a).frames in
+    let counted = subst (λ (n : ℕ). (against (after_head c.args.place.now c.args.state.now b.head) (λ s. frames_of s n)).Fits b.frames)
+    (sym (block_fits c.args.place.now unknown at b a.fits)) (block_parts c.args.place.now unknown at b a).frames in
     subst (λ (s : Option State). (against s (λ s. frames_of s (length b.frames))).Fits b.frames) (sym c.in_ok-write_head.ensures.force) counted
 
 pub returns-clause-text : goal.returns-clause-text
@@ -42,6 +43,7 @@ returns-clause-text c = λ so_far due.
     let b : Block = record { head = c.args.head.now; frames = c.args.frames.now } in
     let at = context_of c.args.state.now c.requires.block.0 c.requires.block.1 in
     let a = c.requires.block.2 in
-    let counted = subst (λ (n : ℕ). Writes c.write_head.new.w c.write_codes.new.w c.write_codes.result ((against c.write_head.new.state (λ s. frames_of s n)).spelling b.frames)) (block_fits p unknown at b a.fits) c.write_codes.ensures in
+    let counted = subst (λ (n : ℕ). Writes c.write_head.new.w c.write_codes.new.w c.write_codes.result ((against c.write_head.new.state (λ s. frames_of s n)).spelling b.frames))
+    (block_fits p unknown at b a.fits) c.write_codes.ensures in
     let codes = subst (λ (s : Option State). Writes c.write_head.new.w c.write_codes.new.w c.write_codes.result ((against s (λ s. frames_of s b.head.frames)).spelling b.frames)) c.in_ok-write_head.ensures.force counted in
     writes_as (block_text p unknown (context_of c.args.state.now so_far due) b) (then_writes (c.in_ok-write_head.ensures.text due) codes)

@@ -7,7 +7,8 @@ use Rattle.mlp_substream.proofs.WritingParts.{flags_text}
 use Rattle.mlp_substream.proofs.writing_heads.write_flags.Goals as goal
 
 pub returns-in_err-put_flag : goal.returns-in_err-put_flag
-returns-in_err-put_flag c = λ due. writes_as (flags_text due c.args.given c.args.restarts) (stops_writing _ ((chosen c.args.given flag (made false)).spelling c.args.restarts) c.from_residual.result c.from_residual.ensures.1 c.in_err-put_flag.ensures)
+returns-in_err-put_flag c = λ due.
+    writes_as (flags_text due c.args.given c.args.restarts) (stops_writing _ ((chosen c.args.given flag (made false)).spelling c.args.restarts) c.from_residual.result c.from_residual.ensures.1 c.in_err-put_flag.ensures)
 
 pub returns-then-given : goal.returns-then-given
 unfolding chosen made

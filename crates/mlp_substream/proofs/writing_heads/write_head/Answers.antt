@@ -44,7 +44,8 @@ returns-in_err-write_params_if-clause-text c = λ due.
     writes_as (head_text p unknown due c.args.state.now h) (then_writes a (then_writes b (stops_last _ c.from_residual-in_err-write_params_if.result c.from_residual-in_err-write_params_if.ensures.1 d)))
 
 pub apply_if-requires-clause-written : goal.apply_if-requires-clause-written
-apply_if-requires-clause-written c = rw c.restart_at.ensures.value (params_allowed (restarted c.args.place.now c.args.state.now c.args.head.now.restart) c.args.head.now.params (head_parts c.args.place.now unknown c.requires.head.0 c.args.state.now c.args.head.now c.requires.head.1).params)
+apply_if-requires-clause-written c = rw c.restart_at.ensures.value (params_allowed (restarted c.args.place.now c.args.state.now c.args.head.now.restart) c.args.head.now.params
+    (head_parts c.args.place.now unknown c.requires.head.0 c.args.state.now c.args.head.now c.requires.head.1).params)
 
 pub returns-clause-text : goal.returns-clause-text
 returns-clause-text c = λ due.

@@ -17,4 +17,5 @@ returns-then-at-len c =
 pub returns-else-at-len : goal.returns-else-at-len
 returns-else-at-len c =
     let len = written-length c.self.inside.bytes.items c.self.inside.pending c.self.inside.count c.args.self.now c.self.view_is in
-    bit-behind c.self.inside.bytes.items c.self.inside.pending c.self.inside.count c.args.self.now c.args.place c.self.view_is (omega (arith, c.len.ensures.value, c.self.invariant.0, len)) (omega (arith, c.len.ensures.value, len)) c.self.invariant.0
+    bit-behind c.self.inside.bytes.items c.self.inside.pending c.self.inside.count c.args.self.now c.args.place c.self.view_is
+    (omega (arith, c.len.ensures.value, c.self.invariant.0, len)) (omega (arith, c.len.ensures.value, len)) c.self.invariant.0
