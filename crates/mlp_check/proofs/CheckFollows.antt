@@ -13,7 +13,7 @@ use Rattle.mlp_layout.specs.Layout.{Found, tested}
 use Rattle.mlp_layout.specs.Reading.{broken}
 use Rattle.mlp_layout.specs.Streams.{IsNext, left_after, spelling_of}
 use Rattle.mlp_layout.proofs.StreamLaws.{left_more}
-use Rattle.mlp_unit.specs.AccessUnit.{AccessUnit, access_unit, in_force, stream_kind}
+use Rattle.mlp_unit.specs.AccessUnit.{AccessUnit, access_unit, in_force, stream_kind, stream_rate}
 use Rattle.mlp_unit.specs.Written.{FirstUsable}
 use Rattle.mlp_unit.proofs.Reread.{parts_of}
 use Rattle.mlp_stream.specs.declared.stop.Stop.{Stop}
@@ -38,7 +38,6 @@ use Rattle.mlp_fifo.specs.Checked.{checked_after}
 use Rattle.mlp_fifo.proofs.CheckedLaws.{none_timed, checked_leaves}
 use Rattle.mlp_present.specs.Decoding.{is_open_behind, last_of, no_unit, after_unit, timing_by, channels_by}
 use Rattle.mlp_samples.proofs.SyncLaws.{unit_usable, unit_synced}
-use Rattle.mlp_sessions.specs.Playing.{rate_by}
 use Rattle.mlp_sessions.proofs.NoUnit.{none_read}
 use Rattle.mlp_samples.specs.Samples.{frames_by_steps}
 use Rattle.mlp_check.specs.declared.report.Report.{Report}
@@ -100,11 +99,11 @@ module _ (k : ℕ) (us : List Unit_of) (u : Unit_of) (text : List Bool) (next : 
 
 -- what units leave to a checker, in a stream with this first major sync
 abbrev LeavesChecker : Option MajorSync → List TimedUnit → LeftChecker → Type 0
-LeavesChecker sync units checker = LeavesTimed (stream_kind sync) (rate_by sync) units checker
+LeavesChecker sync units checker = LeavesTimed (stream_kind sync) (stream_rate sync) units checker
 
 first_begun : (o : Option MajorSync) (n : ℕ) (checker : LeftChecker) → n ≡ 0 → is_some (in_force None o) ≡ true → LeavesChecker (in_force None o) [] (begun n o checker)
 first_begun None n checker e some = absurd cc
-first_begun (Some m) n checker e some = subst (λ (i : ℕ). LeavesChecker (Some m) [] (begun i (Some m) checker)) (sym e) (none_timed (stream_kind (Some m)) (rate_by (Some m)))
+first_begun (Some m) n checker e some = subst (λ (i : ℕ). LeavesChecker (Some m) [] (begun i (Some m) checker)) (sym e) (none_timed (stream_kind (Some m)) (stream_rate (Some m)))
 
 later_begun : (n : ℕ) (o : Option MajorSync) (checker : LeftChecker) → 0 < n → begun n o checker ≡ checker
 later_begun n None checker some = refl
@@ -134,7 +133,7 @@ module _ (k : ℕ) (us : List Unit_of) (s : CheckState) (u : Unit_of) (text : Li
   timed_on =
       let sync = in_force (left_behind k us).sync u.outer.major in
       let before = begun_on k us u s h (unit_synced (left_behind k us).sync text u.outer h.usable (found k us u text next h.usable)) in
-      let behind = checked_leaves (stream_kind sync) (rate_by sync) (map timed_unit us) (begun s.held.units u.outer.major s.checker) (timed_unit u) before (small k us u text next h.usable) in
+      let behind = checked_leaves (stream_kind sync) (stream_rate sync) (map timed_unit us) (begun s.held.units u.outer.major s.checker) (timed_unit u) before (small k us u text next h.usable) in
       subst (λ (o : Option MajorSync). LeavesChecker o (map timed_unit (us ++ u ∷ [])) (after_checked s u).checker) (sym (sync_on k us u text next h.usable))
       (subst (λ (units : List TimedUnit). LeavesChecker sync units (after_checked s u).checker) (sym (map-append timed_unit us (u ∷ [])))
       (subst (λ (v : TimedUnit). LeavesChecker sync (map timed_unit us ++ timed_unit u ∷ []) (checked_after (begun s.held.units u.outer.major s.checker) v)) (sym timing_here) behind))
@@ -189,7 +188,7 @@ some_report k us s h has = record {
   units = h.units;
   frames = h.frames;
   channels = has.channels;
-  rate = ap (λ (left : Left). rate_by left.sync) h.left;
+  rate = ap (λ (left : Left). stream_rate left.sync) h.left;
   restarts = h.restarts;
   timed = has.timed.timed_is;
 }

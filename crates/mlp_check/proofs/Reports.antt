@@ -1,7 +1,7 @@
 -- Units have one report.
 use Rattle.std.proofs.Common.{◌≡◌, ℕ, ◌↔◌, IsTrue, Bool, true, false, List, length, map, Result, Ok, refl, sym, ap, ◌∙◌}
 use Rattle.std.specs.Prelude.{count_by, is_some}
-use Rattle.mlp_unit.specs.AccessUnit.{stream_kind}
+use Rattle.mlp_unit.specs.AccessUnit.{stream_kind, stream_rate}
 use Rattle.mlp_stream.specs.declared.refusal.Refusal.{Refusal}
 use Rattle.mlp_answers.specs.Working.{IsWorking}
 use Rattle.mlp_answers.specs.Answers.{HasOneAnswer}
@@ -10,7 +10,6 @@ use Rattle.mlp_contents.specs.Units.{Unit_of, start}
 use Rattle.mlp_contents.proofs.FormatLaws.{whole_is, whole_bytes}
 use Rattle.mlp_present.specs.Decoding.{channels_by}
 use Rattle.mlp_samples.specs.Samples.{frames_by_steps}
-use Rattle.mlp_sessions.specs.Playing.{rate_by}
 use Rattle.mlp_sessions.specs.PlayLaws.{whole_open}
 use Rattle.mlp_check.specs.declared.report.Report.{Report}
 use Rattle.mlp_check.specs.Report.{report_text}
@@ -22,14 +21,14 @@ report_with k us timed = record {
   units = length us;
   frames = length (frames_by_steps k (start k) us);
   channels = channels_by k (left_behind k us);
-  rate = rate_by (left_behind k us).sync;
+  rate = stream_rate (left_behind k us).sync;
   restarts = count_by (λ u. is_some u.outer.major) us;
   timed = timed;
 }
 
 pub has_report : (k : ℕ) (us : List Unit_of) → (r : Report) × IsReport k us r
 has_report k us =
-    let d = timed_decided (stream_kind (left_behind k us).sync) (rate_by (left_behind k us).sync) (map timed_unit us) in
+    let d = timed_decided (stream_kind (left_behind k us).sync) (stream_rate (left_behind k us).sync) (map timed_unit us) in
     (report_with k us d.answer, record { units = refl; frames = refl; channels = refl; rate = refl; restarts = refl; timed = d.is })
 
 same_answer : {P : Type 0} (a b : Bool) → IsTrue a ↔ P → IsTrue b ↔ P → a ≡ b

@@ -6,7 +6,7 @@ use Rattle.mlp_syntax.specs.declared.major.MajorSync.{MajorSync}
 use Rattle.mlp_syntax.specs.declared.segment.Segment.{Segment}
 use Rattle.mlp_syntax.specs.declared.unit.UnitHead.{UnitHead}
 use Rattle.mlp_major.specs.MajorSync.{kind_of, rate_in_hertz}
-use Rattle.mlp_unit.specs.AccessUnit.{AccessUnit, stream_kind}
+use Rattle.mlp_unit.specs.AccessUnit.{AccessUnit, stream_kind, stream_rate}
 use Rattle.mlp_unit.specs.Written.{FirstUsable}
 use Rattle.mlp_walk.specs.declared.refusal.Refusal.{Refusal as Declined}
 use Rattle.mlp_walk.specs.Next.{Taken}
@@ -18,7 +18,6 @@ use Rattle.mlp_fifo.specs.Timed.{LeftChecker, LeavesTimed}
 use Rattle.mlp_fifo.specs.Checked.{empty_checker, checked_after}
 use Rattle.mlp_present.specs.Decoding.{Held, opened, after_unit, channels_by, is_open_behind, last_word}
 use Rattle.mlp_samples.specs.Samples.{frames_by_steps}
-use Rattle.mlp_sessions.specs.Playing.{rate_by}
 use Rattle.mlp_check.specs.declared.report.Report.{Report}
 use Rattle.mlp_check.specs.Report.{report_text}
 use Rattle.mlp_check.specs.Checking.{timing_in, timed_unit, left_behind}
@@ -81,7 +80,7 @@ report_of s = record {
   units = s.held.units;
   frames = s.frames;
   channels = s.held.channels;
-  rate = rate_by s.held.left.sync;
+  rate = stream_rate s.held.left.sync;
   restarts = s.restarts;
   timed = s.checker.timed;
 }
@@ -109,7 +108,7 @@ pub record HasChecked (k : ℕ) (us : List Unit_of) (s : CheckState) : Type 0 wh
   pub synced : is_some (left_behind k us).sync ≡ true
   pub timed :
       let sync = (left_behind k us).sync in
-      LeavesTimed (stream_kind sync) (rate_by sync) (map timed_unit us) s.checker
+      LeavesTimed (stream_kind sync) (stream_rate sync) (map timed_unit us) s.checker
 
 pub record Checked (k : ℕ) (us : List Unit_of) (s : CheckState) : Type 0 where
   pub k_is : s.held.k ≡ k

@@ -3,7 +3,7 @@ use Rattle.std.specs.Prelude.{◌≡◌, ◌↔◌, ℕ, ◌*◌, IsTrue, List, 
 use Rattle.mlp_syntax.specs.declared.major.MajorSync.{MajorSync}
 use Rattle.mlp_syntax.specs.declared.segment.Segment.{Segment}
 use Rattle.mlp_syntax.specs.declared.unit.UnitHead.{UnitHead}
-use Rattle.mlp_unit.specs.AccessUnit.{AccessUnit, stream_kind}
+use Rattle.mlp_unit.specs.AccessUnit.{AccessUnit, stream_kind, stream_rate}
 use Rattle.mlp_layout.specs.Streams.{left_after}
 use Rattle.mlp_stream.specs.declared.refusal.Refusal.{Refusal}
 use Rattle.mlp_answers.specs.Working.{Working}
@@ -12,7 +12,6 @@ use Rattle.mlp_contents.specs.Units.{Left, Unit_of, start, whole, top_of}
 use Rattle.mlp_fifo.specs.Timed.{TimedUnit, AreTimed}
 use Rattle.mlp_present.specs.Decoding.{channels_by, is_open_behind}
 use Rattle.mlp_samples.specs.Samples.{frames_by_steps}
-use Rattle.mlp_sessions.specs.Playing.{rate_by}
 use Rattle.mlp_check.specs.declared.report.Report.{Report}
 use Rattle.mlp_check.specs.Report.{report_text}
 
@@ -31,7 +30,7 @@ timed_unit u = timing_in u.outer.head (output_timing u)
 
 -- the units have the timing of a stream of this kind and rate, which its first major sync tells
 abbrev pub KeepTiming : Option MajorSync → List Unit_of → Type 0
-KeepTiming sync us = AreTimed (stream_kind sync) (rate_by sync) (map timed_unit us)
+KeepTiming sync us = AreTimed (stream_kind sync) (stream_rate sync) (map timed_unit us)
 
 -- ---- the command
 
@@ -44,7 +43,7 @@ pub record IsReport (k : ℕ) (us : List Unit_of) (r : Report) : Type 0 where
   pub units : r.units ≡ length us
   pub frames : r.frames ≡ length (frames_by_steps k (start k) us)
   pub channels : r.channels ≡ channels_by k (left_behind k us)
-  pub rate : r.rate ≡ rate_by (left_behind k us).sync
+  pub rate : r.rate ≡ stream_rate (left_behind k us).sync
   pub restarts : r.restarts ≡ count_by (λ u. is_some u.outer.major) us
   pub timed : IsTrue r.timed ↔ KeepTiming (left_behind k us).sync us
 

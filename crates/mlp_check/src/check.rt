@@ -1,41 +1,19 @@
 //! The session of `check`.
-ghost use Rattle.std.specs.Option.{option_copied};
 ghost use Rattle.std.specs.Prelude.{◌≡◌, ◌+◌, ◌<◌, ◌≤◌, ◌^◌, IfOk, IfSome};
-ghost use Rattle.mlp_major.specs.MajorSync.{kind_of, IsUsable};
-ghost use Rattle.mlp_unit.specs.Written.{FirstUsable};
-ghost use Rattle.mlp_sessions.specs.Playing.{rate_by};
+ghost use Rattle.mlp_major.specs.MajorSync.{IsUsable};
 ghost use Rattle.mlp_check.specs.Check.{begun, timed_after, one_if};
 
 use crate::report::{Report, put_report};
 use arrayvec::ArrayVec;
 use mlp_answers::refusal_of;
 use mlp_fifo::Checker;
-use mlp_major::sample_rate;
+use mlp_major::{kind_of, sample_rate};
 use mlp_present::Decoder;
 use mlp_stream::{Refusal, Session};
-use mlp_syntax::{FormatInfo, Kind, MajorSync, Memory, Outer, UnitBytes};
+use mlp_syntax::{MajorSync, Memory, Outer, UnitBytes};
+use mlp_unit::stream_rate;
 use std::alloc::Global;
 use std::marker::Model;
-
-fn kind_of(format: &FormatInfo) -> Kind
-    ensures { result ≡ kind_of format.now }
-{
-    match format {
-        FormatInfo::Fbb(_) => Kind::Fbb,
-        FormatInfo::Fba(_) => Kind::Fba,
-    }
-}
-
-/// The sampling rate by the stream's first major sync, 0 where there is none yet.
-fn rate_by(first: Option<&MajorSync>) -> u32
-    requires { FirstUsable (option_copied first) }
-    ensures { result ≡ rate_by (option_copied first.entry) }
-{
-    match first {
-        None => 0,
-        Some(major) => sample_rate(major),
-    }
-}
 
 /// Begins a stream at its first unit, which has this major sync.
 fn begin(number: u64, major: &Option<MajorSync>, checker: &mut Checker)
@@ -123,7 +101,7 @@ impl Check {
             units: self.decoder.units(),
             frames: self.given,
             channels: self.decoder.channels(),
-            rate: rate_by(self.decoder.major()),
+            rate: stream_rate(self.decoder.major()),
             restarts: self.restarts,
             timed: self.timed,
         }

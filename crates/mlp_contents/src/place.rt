@@ -3,35 +3,13 @@ ghost use Rattle.std.specs.Option.{option_copied};
 ghost use Rattle.std.specs.Prelude.{◌≡◌, IfSome};
 ghost use Rattle.mlp_major.specs.MajorSync.{IsUsable};
 ghost use Rattle.mlp_substream.specs.Blocks.{IsPlace};
-ghost use Rattle.mlp_unit.specs.AccessUnit.{in_force, stream_kind};
+ghost use Rattle.mlp_unit.specs.AccessUnit.{in_force};
 ghost use Rattle.mlp_contents.specs.Units.{frames_in_unit, place_by};
 
 use mlp_major::frames_per_unit;
 use mlp_substream::Place;
-use mlp_syntax::{FormatInfo, Kind, MajorSync};
-
-/// The stream's first major sync, which may be this unit's.
-fn in_force<'a>(first: Option<&'a MajorSync>, major: &'a Option<MajorSync>) -> Option<&'a MajorSync>
-    ensures { option_copied result ≡ in_force (option_copied first.entry) major.now }
-{
-    match (first, major) {
-        (Some(first), _) => Some(first),
-        (None, Some(here)) => Some(here),
-        (None, None) => None,
-    }
-}
-
-fn stream_kind(sync: Option<&MajorSync>) -> Kind
-    ensures { result ≡ stream_kind (option_copied sync.entry) }
-{
-    match sync {
-        None => Kind::Fba,
-        Some(sync) => match sync.format {
-            FormatInfo::Fbb(_) => Kind::Fbb,
-            FormatInfo::Fba(_) => Kind::Fba,
-        },
-    }
-}
+use mlp_syntax::MajorSync;
+use mlp_unit::{in_force, stream_kind};
 
 fn frames_in_unit(sync: Option<&MajorSync>) -> u16
     requires { IfSome (option_copied sync) IsUsable }

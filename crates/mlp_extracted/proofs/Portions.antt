@@ -1,26 +1,21 @@
 -- The segments that an extraction keeps have the bits that they have in the unit.
 use Rattle.std.proofs.Common.{◌≡◌, ℕ, zero, suc, ◌+◌, ◌-◌, ◌*◌, ◌/◌, ◌≤◌, ◌<◌, Bool, false, List, [], ◌∷◌, ◌++◌, length, take, drop, Option, None, inl, inr, refl, sym, ap, ◌∙◌, arith, append_assoc}
-use Rattle.std.proofs.Math.Seq.{drop-append-add}
 use Rattle.std.proofs.lemmas.Bool.{cases_lt}
 use Rattle.std.proofs.lemmas.List.{take-take, drop-take, get_or-take, length-append, length-take}
 use Rattle.std.specs.Prelude.{option_map}
 use Rattle.mlp_syntax.specs.declared.major.MajorSync.{MajorSync}
 use Rattle.mlp_syntax.specs.declared.unit.DirEntry.{DirEntry}
 use Rattle.mlp_bits.specs.Bits.{bits_of}
-use Rattle.mlp_bits.proofs.BitLists.{length-bits_of}
 use Rattle.mlp_layout.specs.Allowed.{Allowed}
 use Rattle.mlp_major.specs.MajorSync.{smaller}
-use Rattle.mlp_major.proofs.SyncReading.{bits_of-middle}
-use Rattle.mlp_unit.specs.Directory.{directory}
-use Rattle.mlp_unit.specs.AccessUnit.{AccessUnit, access_unit, head, first_bad_end}
+use Rattle.mlp_unit.specs.AccessUnit.{AccessUnit, access_unit, first_bad_end}
 use Rattle.mlp_unit.specs.Extracted.{extracted}
 use Rattle.mlp_unit.specs.Shape.{body_place, end_at, end_before}
-use Rattle.mlp_unit.specs.Written.{FirstUsable, major_text}
+use Rattle.mlp_unit.specs.Written.{FirstUsable}
 use Rattle.mlp_unit.proofs.Fewer.{fewer_meets}
 use Rattle.mlp_unit.proofs.Reread.{writable}
 use Rattle.mlp_unit.proofs.SegmentPlaces.{ends_rise}
-use Rattle.mlp_unit.proofs.UnitLaws.{access_unit_size}
-use Rattle.mlp_unit.proofs.UnitRules.{fits_text}
+use Rattle.mlp_unit.proofs.BodyBits.{body_bits}
 use Rattle.mlp_contents.specs.Units.{is_checked}
 
 -- ---- ends that don't fall
@@ -50,27 +45,6 @@ before_fewer n es (suc j) lt = end_fewer n es j (omega (arith, lt))
 
 pub checked_fewer : (n : ℕ) (es : List DirEntry) (j : ℕ) → j < n → is_checked (take n es) j ≡ is_checked es j
 checked_fewer n es j lt = ap (λ (e : DirEntry). e.checked) (get_or-take n es j (record { extra = None; restart_absent = false; checked = false; reserved = false; end = 0 }) lt)
-
--- ---- bits of a unit's body
-
-module _ (first : Option MajorSync) (o : AccessUnit) (fits : (access_unit first).Fits o) where
-  abbrev front : List Bool
-  front = head.spelling o.head ++ (major_text o.major ++ (directory (length o.entries)).spelling o.entries)
-
-  text_is : (access_unit first).spelling o ≡ front ++ bits_of o.body
-  text_is =
-      let h = head.spelling o.head in
-      let m = major_text o.major in
-      let d = (directory (length o.entries)).spelling o.entries in
-      fits_text first o fits ∙ ap (λ (t : List Bool). h ++ t) (sym (append_assoc m d (bits_of o.body))) ∙ sym (append_assoc h (m ++ d) (bits_of o.body))
-
-  front_long : length front ≡ 8 * body_place o
-  front_long = omega (arith, ap length text_is, length-append front (bits_of o.body), length-bits_of o.body, access_unit_size first o fits)
-
-  pub body_bits : (b n : ℕ) → b + n ≤ length o.body → take (8 * n) (drop (8 * (body_place o + b)) ((access_unit first).spelling o)) ≡ bits_of (take n (drop b o.body))
-  body_bits b n within =
-      let place : 8 * (body_place o + b) ≡ length front + 8 * b = omega (arith, front_long) in
-      ap (take (8 * n)) ((λ i. drop (place i) (text_is i)) ∙ drop-append-add front (bits_of o.body) (8 * b)) ∙ bits_of-middle b n o.body within
 
 -- so many bytes of the front of others
 middle_less : (b n m : ℕ) (bytes : List ℕ) → b + n ≤ m → take n (drop b (take m bytes)) ≡ take n (drop b bytes)

@@ -10,7 +10,7 @@ use Rattle.mlp_layout.specs.Allowed.{Allowed}
 use Rattle.mlp_layout.specs.Streams.{left_after, Begins, Stream}
 use Rattle.mlp_major.specs.MajorSync.{smaller, rate_in_hertz}
 use Rattle.mlp_unit.specs.Directory.{directory_size}
-use Rattle.mlp_unit.specs.AccessUnit.{AccessUnit, access_unit, substreams_of, major_size, stream_kind}
+use Rattle.mlp_unit.specs.AccessUnit.{AccessUnit, access_unit, substreams_of, major_size, stream_kind, stream_rate}
 use Rattle.mlp_unit.specs.Extracted.{extracted}
 use Rattle.mlp_unit.specs.Shape.{end_at}
 use Rattle.mlp_unit.specs.Written.{FirstUsable}
@@ -24,7 +24,6 @@ use Rattle.mlp_contents.specs.Units.{Left, Unit_of, start, after, whole}
 use Rattle.mlp_samples.specs.Samples.{first_sync}
 use Rattle.mlp_samples.proofs.SyncLaws.{unit_usable}
 use Rattle.mlp_samples.proofs.Streams.{left_is}
-use Rattle.mlp_sessions.specs.Playing.{rate_by}
 use Rattle.mlp_check.specs.Checking.{timed_unit, KeepTiming, left_behind}
 use Rattle.mlp_check.proofs.Rates.{rate_is}
 use Rattle.mlp_extracted.specs.Extracted.{extracted_unit, extracted_units}
@@ -58,7 +57,7 @@ each_shorter k (u ∷ us) each (suc i) lt = each_shorter k us each.1 i (omega (a
 -- ---- the pace stays
 
 pace_by : Option MajorSync → Pace
-pace_by sync = pace_of (stream_kind sync) (rate_by sync)
+pace_by sync = pace_of (stream_kind sync) (stream_rate sync)
 
 pace_same : (k : ℕ) (sync : Option MajorSync) → pace_by (option_map (smaller k) sync) ≡ pace_by sync
 unfolding pace_by

@@ -25,7 +25,8 @@ use Rattle.mlp_encode.specs.Unit.{SentUnit, restart_in, segments_from, segments_
 use Rattle.mlp_lossless.proofs.Parts.{IsEven, bits_back, bytes_count, words, words_long, is_part}
 use Rattle.mlp_lossless.proofs.Units.{AllCan, place, unit_is}
 use Rattle.mlp_lossless.proofs.Found.{AllHaveBits}
-use Rattle.mlp_lossless.proofs.Outer.{body_bits, checked_all}
+use Rattle.mlp_unit.proofs.BodyBits.{body_bits}
+use Rattle.mlp_lossless.proofs.Outer.{checked_all}
 
 -- ---- bytes of bits
 

@@ -1,6 +1,7 @@
 //! Reading the format info.
+ghost use Rattle.std.specs.Prelude.{◌≡◌};
 ghost use Rattle.mlp_layout.specs.Reading.{Gives};
-ghost use Rattle.mlp_major.specs.MajorSync.{fbb, fba, format_info, kind_bit};
+ghost use Rattle.mlp_major.specs.MajorSync.{fbb, fba, format_info, kind_bit, kind_of};
 
 use mlp_bits::BitReader;
 use mlp_layout::{byte, number, word};
@@ -8,6 +9,16 @@ use mlp_syntax::{Broken, FormatFba, FormatFbb, FormatInfo, Kind};
 
 /// The first 31 bits of a major sync. The next one tells the kind.
 pub const SYNC: u32 = 0x7C3937DD;
+
+/// The kind of the streams that have this format info.
+pub fn kind_of(format: &FormatInfo) -> Kind
+    ensures { result ≡ kind_of format.now }
+{
+    match format {
+        FormatInfo::Fbb(_) => Kind::Fbb,
+        FormatInfo::Fba(_) => Kind::Fba,
+    }
+}
 
 #[tactic(auto, unfolding(mlp_layout::specs::Layout::part, mlp_layout::specs::Layout::made, crate::specs::MajorSync::fbb))]
 fn read_fbb(r: &mut BitReader) -> Result<FormatFbb, Broken>

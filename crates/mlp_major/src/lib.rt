@@ -12,7 +12,7 @@ mod writing;
 
 pub use extraction::narrow;
 pub use fitting::fits;
-pub use format::SYNC;
+pub use format::{SYNC, kind_of};
 pub use rate::{frames_per_unit, sample_rate};
 pub use reading::{read_major, read_sync};
 pub use writing::write_major;

@@ -14,7 +14,7 @@ use Rattle.mlp_layout.specs.Layout.{Found}
 use Rattle.mlp_layout.specs.Streams.{Begins, left_after}
 use Rattle.mlp_layout.proofs.StreamLaws.{left_more}
 use Rattle.mlp_major.specs.MajorSync.{rate_in_hertz}
-use Rattle.mlp_unit.specs.AccessUnit.{AccessUnit, access_unit, in_force}
+use Rattle.mlp_unit.specs.AccessUnit.{AccessUnit, access_unit, in_force, stream_rate}
 use Rattle.mlp_unit.proofs.UnitLaws.{access_unit_is}
 use Rattle.mlp_walk.specs.declared.refusal.Refusal.{Refusal}
 use Rattle.mlp_walk.specs.Meaning.{HasTaken}
@@ -30,7 +30,6 @@ use Rattle.mlp_present.specs.Decoding.{Held, opened, unless_refused, next_unit, 
 use Rattle.mlp_present.specs.Laws.{HoldsUnits}
 use Rattle.mlp_recover.specs.declared.reach.Reach.{Reach}
 use Rattle.mlp_recover.specs.Interval.{left_behind, HasNoSync, NoneAt}
-use Rattle.mlp_recover.specs.Spans.{rate_by}
 use Rattle.mlp_recover.specs.Reading.{has_major, is_behind, NoFirst, IsRateOf, IsRead, IsGrowing, one_on, IsReached, IsKeptFrom}
 use Rattle.mlp_recover.proofs.Intervals.{interval_some, interval_taken, taken_stream, refused_at}
 use Rattle.mlp_recover.proofs.Syncs.{first_major, first_of_units}
@@ -255,14 +254,14 @@ unfolding after
 first_sync k u = refl
 
 rate_is : (k : ℕ) (bytes : List ℕ) (first : ℕ) (us : List Unit_of) (rest : List Bool) (rate : ℕ) → Begins (whole k) (start k) (bits_of (drop first bytes)) us rest → us ≢ [] → IsRateOf (drop first bytes) rate
-    → rate ≡ rate_by (left_behind k us).sync
+    → rate ≡ stream_rate (left_behind k us).sync
 rate_is k bytes first us rest rate b some of =
     let one = first_of_units k bytes first us rest b some in
     let u = one.0 in
     let major = first_major (bits_of (drop first bytes)) u.outer one.3 in
     let sync : (left_behind k us).sync ≡ u.outer.major =
     ap (λ (vs : List Unit_of). (left_behind k vs).sync) one.2 ∙ sync_stays k u.outer.major major (after k (start k) u) one.1 (first_sync k u) in
-    of u.outer one.3 ∙ ap rate_by (sym sync)
+    of u.outer one.3 ∙ ap stream_rate (sym sync)
 
 pub kept_from : (k : ℕ) (bytes : List ℕ) (first : ℕ) (reach : Reach) (rate : ℕ) → (us : List Unit_of) → IsReached k bytes first us reach → IsRateOf (drop first bytes) rate → length bytes ≤ limit
     → IsKeptFrom k bytes first (record { first = first; past = reach.past; kept = true; units = reach.units; frames = reach.frames; channels = reach.channels; rate = rate })
@@ -287,7 +286,7 @@ module _ (next : List ℕ) where
       ok_is x y h = cc
 
   pub rate_told : (v : AccessUnit) (n rate : ℕ) (m : MajorSync) → (access_unit None).read (bits_of next) 0 ≡ Ok (v, n) → v.major ≡ Some m → rate ≡ rate_in_hertz m → IsRateOf next rate
-  rate_told v n rate m e major is u f = is ∙ ap rate_by (sym major) ∙ ap (λ (w : AccessUnit). rate_by w.major) (sym (same_first u v n e f))
+  rate_told v n rate m e major is u f = is ∙ ap stream_rate (sym major) ∙ ap (λ (w : AccessUnit). stream_rate w.major) (sym (same_first u v n e f))
 
   pub none_without_major : (v : AccessUnit) (n : ℕ) → (access_unit None).read (bits_of next) 0 ≡ Ok (v, n) → v.major ≡ None → NoFirst next
   none_without_major v n e major u f =

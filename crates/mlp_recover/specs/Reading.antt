@@ -3,7 +3,7 @@ use Rattle.std.specs.Prelude.{◌≡◌, ◌≢◌, ℕ, ◌+◌, ◌*◌, ◌<�
 use Rattle.mlp_syntax.specs.declared.unit.Outer.{Outer}
 use Rattle.mlp_bits.specs.Bits.{bits_of}
 use Rattle.mlp_layout.specs.Layout.{Found}
-use Rattle.mlp_unit.specs.AccessUnit.{AccessUnit, access_unit}
+use Rattle.mlp_unit.specs.AccessUnit.{AccessUnit, access_unit, stream_rate}
 use Rattle.mlp_walk.specs.Meaning.{HasTaken}
 use Rattle.mlp_contents.specs.Units.{Unit_of, start, whole}
 use Rattle.mlp_samples.specs.Samples.{frames_by_steps}
@@ -15,7 +15,7 @@ use Rattle.mlp_recover.specs.declared.reach.Reading.{Reading}
 use Rattle.mlp_recover.specs.declared.reach.Reading.TheVariants.{More, Whole, Broken}
 use Rattle.mlp_recover.specs.Interval.{left_behind, HasNoSync, Interval, NoneAt}
 use Rattle.mlp_recover.specs.Recovered.{Piece, Lost, Kept, is_lost, Tile, Apart, IsRight}
-use Rattle.mlp_recover.specs.Spans.{rate_by, span_of, HasFewFrames}
+use Rattle.mlp_recover.specs.Spans.{span_of, HasFewFrames}
 
 -- ---- the first unit
 
@@ -33,7 +33,7 @@ NoFirst bytes = (u : AccessUnit) → Found (access_unit None) (bits_of bytes) 0 
 
 -- the rate of the first unit, if one stands there
 abbrev pub IsRateOf : List ℕ → ℕ → Type 0
-IsRateOf bytes rate = (u : AccessUnit) → Found (access_unit None) (bits_of bytes) 0 u → rate ≡ rate_by u.major
+IsRateOf bytes rate = (u : AccessUnit) → Found (access_unit None) (bits_of bytes) 0 u → rate ≡ stream_rate u.major
 
 -- ---- one interval
 

@@ -1,17 +1,11 @@
 -- What is told of a piece.
 use Rattle.std.specs.Prelude.{◌≡◌, ℕ, ◌<◌, ◌^◌, true, false, List, map, length, Option, Some, None}
-use Rattle.mlp_syntax.specs.declared.major.MajorSync.{MajorSync}
-use Rattle.mlp_major.specs.MajorSync.{rate_in_hertz}
+use Rattle.mlp_unit.specs.AccessUnit.{stream_rate}
 use Rattle.mlp_samples.specs.Samples.{samples}
 use Rattle.mlp_present.specs.Decoding.{channels_by}
 use Rattle.mlp_recover.specs.declared.span.Span.{Span}
 use Rattle.mlp_recover.specs.Interval.{left_behind}
 use Rattle.mlp_recover.specs.Recovered.{Piece, Lost, Kept, AreRecovered}
-
--- the sampling rate in hertz
-abbrev pub rate_by : Option MajorSync → ℕ
-rate_by None = 0
-rate_by (Some m) = rate_in_hertz m
 
 -- its numbers: of a kept piece the units, the frames of the presentation, its channels and its rate
 abbrev pub span_of : ℕ → Piece → Span
@@ -23,7 +17,7 @@ span_of k (Kept first past us) = record {
   units = length us;
   frames = length (samples k us);
   channels = channels_by k (left_behind k us);
-  rate = rate_by (left_behind k us).sync;
+  rate = stream_rate (left_behind k us).sync;
 }
 
 -- as few as bytes up to the limit have

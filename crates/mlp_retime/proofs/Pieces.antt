@@ -10,7 +10,7 @@ use Rattle.mlp_io.specs.Limit.{limit}
 use Rattle.mlp_bits.specs.Bits.{bits_of}
 use Rattle.mlp_layout.specs.Layout.{Found, tested}
 use Rattle.mlp_layout.specs.Streams.{Begins, left_after}
-use Rattle.mlp_unit.specs.AccessUnit.{access_unit, in_force, stream_kind}
+use Rattle.mlp_unit.specs.AccessUnit.{access_unit, in_force, stream_kind, stream_rate}
 use Rattle.mlp_fifo.specs.Schedule.{IsSchedule}
 use Rattle.mlp_fifo.specs.Pace.{pace_of}
 use Rattle.mlp_fifo.specs.LeftFifo.{LeftFifo}
@@ -21,7 +21,6 @@ use Rattle.mlp_cut.specs.Cut.{unit_bytes, units_bytes, first_sync}
 use Rattle.mlp_answers.specs.Answers.{Gives, Answer, finished}
 use Rattle.mlp_contents.specs.Units.{Unit_of, start, whole, after}
 use Rattle.mlp_samples.proofs.SyncLaws.{unit_synced}
-use Rattle.mlp_sessions.specs.Playing.{rate_by}
 use Rattle.mlp_retime.specs.Top.{top}
 use Rattle.mlp_retime.specs.Retimed.{length_of, retimed_unit, retimed_from, pace_in, IsRetimed}
 use Rattle.mlp_retime.specs.Retiming.{fifo_for, behind_placed, fifo_behind, on_placed, retimed_out, sync_with, retiming}
@@ -145,7 +144,7 @@ unfolding Gives
 gives_all [] vs some r = ap units_bytes r.units_are ∙ none_given None 0 r.times
 gives_all (u ∷ us) vs some r =
     let sync = u.outer.major in
-    let p = placed_at (stream_kind sync) (rate_by sync) (map length_of (u ∷ us)) r.times r.begin in
+    let p = placed_at (stream_kind sync) (stream_rate sync) (map length_of (u ∷ us)) r.times r.begin in
     subst (λ (ws : List Unit_of). Gives retiming [] (u ∷ us) (units_bytes ws)) (sym r.units_are)
     (given_from sync (some u us refl) [] (u ∷ us) r.times (fifo_for sync) p.left (λ v rest e. ap (λ (xs : List Unit_of). first_sync xs) (sym e)) refl p.is)
 
@@ -157,13 +156,13 @@ stream_retimed k bytes us vs few h r = record {
 }
 
 -- where the lengths have a schedule there are such units
-retimed_by : (us : List Unit_of) (x : Result (List ℕ × LeftFifo) NoRoom) → IsOk x → AllPlacedMean (stream_kind (first_sync us)) (rate_by (first_sync us)) (map length_of us) x → (vs : List Unit_of) × IsRetimed us vs
+retimed_by : (us : List Unit_of) (x : Result (List ℕ × LeftFifo) NoRoom) → IsOk x → AllPlacedMean (stream_kind (first_sync us)) (stream_rate (first_sync us)) (map length_of us) x → (vs : List Unit_of) × IsRetimed us vs
 retimed_by us (Ok r) some m = (retimed_from (first_sync us) (pace_in (first_sync us)) 0 r.0 us, record { times = r.0; begin = m.0; units_are = refl })
 retimed_by us (Err b) some m = absurd cc
 
 pub some_retimed : (us : List Unit_of) (times : ℕ → ℕ) → IsSchedule (pace_in (first_sync us)) (slice_index (map length_of us)) times (length (map length_of us)) → (vs : List Unit_of) × IsRetimed us vs
 some_retimed us times q =
     let kind = stream_kind (first_sync us) in
-    let rate = rate_by (first_sync us) in
+    let rate = stream_rate (first_sync us) in
     let lengths = map length_of us in
     retimed_by us (placed_all lengths (emptied kind rate)) (all_have_room kind rate lengths times q) (all_placed kind rate lengths)

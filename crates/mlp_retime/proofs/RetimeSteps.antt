@@ -6,7 +6,7 @@ use Rattle.std.proofs.lemmas.Bool.{cases_lt}
 use Rattle.std.proofs.lemmas.Bool.Decides.{nat_tests}
 use Rattle.mlp_syntax.specs.declared.major.MajorSync.{MajorSync}
 use Rattle.mlp_syntax.specs.declared.refusal.NoRoom.{NoRoom}
-use Rattle.mlp_unit.specs.AccessUnit.{AccessUnit, in_force, stream_kind}
+use Rattle.mlp_unit.specs.AccessUnit.{AccessUnit, in_force, stream_kind, stream_rate}
 use Rattle.mlp_cut.specs.Cut.{unit_bytes}
 use Rattle.mlp_walk.specs.declared.refusal.Refusal.{Refusal as Declined}
 use Rattle.mlp_walk.specs.Next.{next_of}
@@ -21,7 +21,6 @@ use Rattle.mlp_fifo.specs.LeftFifo.{LeftFifo}
 use Rattle.mlp_fifo.specs.Placed.{placed, with_unit}
 use Rattle.mlp_present.specs.Parts.{Next}
 use Rattle.mlp_present.specs.Decoding.{Held, is_open_behind}
-use Rattle.mlp_sessions.specs.Playing.{rate_by}
 use Rattle.mlp_retime.specs.Top.{highest, top}
 use Rattle.mlp_retime.specs.Retimed.{length_of}
 use Rattle.mlp_retime.specs.Retiming.{fifo_for, behind_placed, on_placed}
@@ -112,7 +111,7 @@ module _ (held : Held) (fifo : LeftFifo) (refusal : Option Refusal) (none : refu
   record Ready (b : LeftFifo) : Type 0 where
     at_unit : buffer_at number first fifo ≡ b
     kind : b.kind ≡ stream_kind sync
-    rate : b.rate ≡ rate_by sync
+    rate : b.rate ≡ stream_rate sync
     count : b.count ≡ held.units
 
   ready_by : (none : Bool) → is_none held.left.sync ≡ none → Ready (if none then fifo_for sync else fifo)
@@ -133,7 +132,7 @@ module _ (held : Held) (fifo : LeftFifo) (refusal : Option Refusal) (none : refu
       record {
         at_unit = ap (λ (b : Bool). if b then fifo_for (Some first) else fifo) later;
         kind = b.kind ∙ ap stream_kind kept;
-        rate = b.rate ∙ ap rate_by kept;
+        rate = b.rate ∙ ap stream_rate kept;
         count = b.count;
       }
 
@@ -148,7 +147,7 @@ module _ (held : Held) (fifo : LeftFifo) (refusal : Option Refusal) (none : refu
       let at = ready.at_unit in
       record {
         kind = kept.0 ∙ ap (λ (b : LeftFifo). b.kind) at ∙ ready.kind ∙ ap stream_kind sync_new;
-        rate = kept.1 ∙ ap (λ (b : LeftFifo). b.rate) at ∙ ready.rate ∙ ap rate_by sync_new;
+        rate = kept.1 ∙ ap (λ (b : LeftFifo). b.rate) at ∙ ready.rate ∙ ap stream_rate sync_new;
         count = omega (arith, kept.2, ap (λ (b : LeftFifo). b.count) at, ready.count, units_taken held t bytes new size g);
       }
 
@@ -157,13 +156,13 @@ module _ (held : Held) (fifo : LeftFifo) (refusal : Option Refusal) (none : refu
 
   -- by what comes of placing it
   out_by : (x : Result (ℕ × LeftFifo) NoRoom) → placed (buffer_at number first fifo) (2 * g.outer.head.words) ≡ x
-      → retime_step (parts held fifo refusal) true bytes ≡ on_given top None is_open_behind retime_reader size (with_state new (behind_placed before x) (on_placed sync (out_of (pace_of (stream_kind sync) (rate_by sync)) held.units) g.unit x))
+      → retime_step (parts held fifo refusal) true bytes ≡ on_given top None is_open_behind retime_reader size (with_state new (behind_placed before x) (on_placed sync (out_of (pace_of (stream_kind sync) (stream_rate sync)) held.units) g.unit x))
   out_by x e =
       let here = parts held fifo refusal in
       let placing : placed before (length_of g.unit) ≡ x = (λ i. placed (sym ready.at_unit i) (words_are i)) ∙ e in
       at_end here bytes ∙ ap (λ (o : Option Refusal). stepped_at o false here (next_at here bytes)) none ∙ ap (stepped_at None false here) g.next_is
-      ∙ ap (λ (y : Result (ℕ × LeftFifo) NoRoom). on_given top None is_open_behind retime_reader size (with_state (after_top held g.unit) (behind_placed before y) (on_placed sync (out_of (pace_of (stream_kind sync) (rate_by sync)) held.units) g.unit y))) placing
-      ∙ ap (λ (h : Held). on_given top None is_open_behind retime_reader size (with_state h (behind_placed before x) (on_placed sync (out_of (pace_of (stream_kind sync) (rate_by sync)) held.units) g.unit x))) (sym g.held_is)
+      ∙ ap (λ (y : Result (ℕ × LeftFifo) NoRoom). on_given top None is_open_behind retime_reader size (with_state (after_top held g.unit) (behind_placed before y) (on_placed sync (out_of (pace_of (stream_kind sync) (stream_rate sync)) held.units) g.unit y))) placing
+      ∙ ap (λ (h : Held). on_given top None is_open_behind retime_reader size (with_state h (behind_placed before x) (on_placed sync (out_of (pace_of (stream_kind sync) (stream_rate sync)) held.units) g.unit x))) (sym g.held_is)
 
   pub retime_full : (e : NoRoom) → placed (buffer_at number first fifo) (2 * g.outer.head.words) ≡ Err e → (s : RetimeState) → parts held fifo refusal ≡ s → retime_step s true bytes ≡ Refuses (refused.NoRoom e)
   retime_full e late s is = subst (λ (q : RetimeState). retime_step q true bytes ≡ Refuses (refused.NoRoom e)) is (out_by (Err e) late)
@@ -173,12 +172,12 @@ module _ (held : Held) (fifo : LeftFifo) (refusal : Option Refusal) (none : refu
   retime_taken behind out p s is =
       let time = p.time in
       let b = buffer_at number first fifo in
-      let out_here : out_of (pace_of b.kind b.rate) b.count ≡ out_of (pace_of (stream_kind sync) (rate_by sync)) held.units =
+      let out_here : out_of (pace_of b.kind b.rate) b.count ≡ out_of (pace_of (stream_kind sync) (stream_rate sync)) held.units =
       (λ i. out_of (pace_of (ready.at_unit i).kind (ready.at_unit i).rate) (ready.at_unit i).count) ∙ (λ i. out_of (pace_of (ready.kind i) (ready.rate i)) (ready.count i)) in
       let bytes_are : unit_bytes (rewritten first (highest (Some first) + 1) (time % 65536) (out_of (pace_of b.kind b.rate) b.count % 65536) (take size bytes) g.outer) ≡ out = sym p.out_is in
       subst (λ (q : RetimeState). retime_step q true bytes ≡ Takes size out (parts new behind None)) is
       (out_by (Ok (time, behind)) p.placed_is
-      ∙ ap (λ (o : AccessUnit). Takes size (unit_bytes o) (parts new behind None)) (sym (unit_is held t bytes new size g first (time % 65536) (out_of (pace_of (stream_kind sync) (rate_by sync)) held.units % 65536) is_first))
+      ∙ ap (λ (o : AccessUnit). Takes size (unit_bytes o) (parts new behind None)) (sym (unit_is held t bytes new size g first (time % 65536) (out_of (pace_of (stream_kind sync) (stream_rate sync)) held.units % 65536) is_first))
       ∙ ap (λ (n : ℕ). Takes size (unit_bytes (rewritten first (highest (Some first) + 1) (time % 65536) (n % 65536) (take size bytes) g.outer)) (parts new behind None)) (sym out_here)
       ∙ ap (λ (xs : List ℕ). Takes size xs (parts new behind None)) bytes_are)
 

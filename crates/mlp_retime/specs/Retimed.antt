@@ -4,7 +4,7 @@ use Rattle.std.specs.List.{flat_map}
 use Rattle.mlp_syntax.specs.declared.major.MajorSync.{MajorSync}
 use Rattle.mlp_syntax.specs.declared.segment.Segment.{Segment}
 use Rattle.mlp_bits.specs.Bits.{bits_of}
-use Rattle.mlp_unit.specs.AccessUnit.{AccessUnit, stream_kind}
+use Rattle.mlp_unit.specs.AccessUnit.{AccessUnit, stream_kind, stream_rate}
 use Rattle.mlp_unit.specs.Shape.{end_before}
 use Rattle.mlp_unit.specs.Written.{written_unit}
 use Rattle.mlp_substream.specs.declared.known.Place.{Place}
@@ -17,7 +17,6 @@ use Rattle.mlp_fifo.specs.Pace.{pace_of}
 use Rattle.mlp_fifo.specs.Schedule.{out_of}
 use Rattle.mlp_fifo.specs.Placed.{BeginAt}
 use Rattle.mlp_cut.specs.Cut.{first_sync}
-use Rattle.mlp_sessions.specs.Playing.{rate_by}
 
 -- ---- a unit, with an input timing and an output timing of 16 bits each
 
@@ -66,10 +65,10 @@ retimed_from sync p n (t ∷ times) (u ∷ us) =
 
 -- in a stream with this first major sync
 abbrev pub pace_in : Option MajorSync → Pace
-pace_in sync = pace_of (stream_kind sync) (rate_by sync)
+pace_in sync = pace_of (stream_kind sync) (stream_rate sync)
 
 -- vs are the units us, with the times of the earliest schedule of their lengths
 pub record IsRetimed (us vs : List Unit_of) : Type 0 where
   pub times : List ℕ
-  pub begin : let sync = first_sync us in BeginAt (stream_kind sync) (rate_by sync) (map length_of us) times
+  pub begin : let sync = first_sync us in BeginAt (stream_kind sync) (stream_rate sync) (map length_of us) times
   pub units_are : let sync = first_sync us in vs ≡ retimed_from sync (pace_in sync) 0 times us

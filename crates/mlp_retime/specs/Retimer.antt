@@ -5,7 +5,7 @@ use Rattle.mlp_syntax.specs.declared.major.MajorSync.{MajorSync}
 use Rattle.mlp_syntax.specs.declared.segment.Segment.{Segment}
 use Rattle.mlp_syntax.specs.declared.unit.Outer.{Outer}
 use Rattle.mlp_layout.specs.Streams.{left_after}
-use Rattle.mlp_unit.specs.AccessUnit.{AccessUnit, in_force, stream_kind, substreams_of}
+use Rattle.mlp_unit.specs.AccessUnit.{AccessUnit, in_force, stream_kind, substreams_of, stream_rate}
 use Rattle.mlp_unit.specs.Shape.{unit_with}
 use Rattle.mlp_unit.specs.Written.{FirstUsable}
 use Rattle.mlp_walk.specs.Next.{Taken, next_of}
@@ -19,7 +19,7 @@ use Rattle.mlp_fifo.specs.LeftFifo.{LeftFifo}
 use Rattle.mlp_fifo.specs.Placed.{placed, emptied}
 use Rattle.mlp_present.specs.Parts.{HasOuter, outer_read}
 use Rattle.mlp_present.specs.Decoding.{Held, opened, after_unit, is_open_behind, last_word}
-use Rattle.mlp_sessions.specs.Playing.{rate_by, on_end}
+use Rattle.mlp_sessions.specs.Playing.{on_end}
 use Rattle.mlp_retime.specs.declared.retimer.Timings.{Timings}
 use Rattle.mlp_retime.specs.Top.{highest, top}
 use Rattle.mlp_cut.specs.Cut.{unit_bytes}
@@ -150,7 +150,7 @@ pub record IsTop (held : Held) : Type 0 where
 -- .. and the buffer that of its units
 pub record IsBuffer (held : Held) (fifo : LeftFifo) : Type 0 where
   pub kind : fifo.kind ≡ stream_kind held.left.sync
-  pub rate : fifo.rate ≡ rate_by held.left.sync
+  pub rate : fifo.rate ≡ stream_rate held.left.sync
   pub count : fifo.count ≡ held.units
 
 pub record IsRetiming (held : Held) (fifo : LeftFifo) (refusal : Option Refusal) : Type 0 where

@@ -4,7 +4,7 @@ use Rattle.mlp_syntax.specs.declared.major.MajorSync.{MajorSync}
 use Rattle.mlp_syntax.specs.declared.refusal.NoRoom.{NoRoom}
 use Rattle.mlp_syntax.specs.declared.segment.Segment.{Segment}
 use Rattle.mlp_layout.specs.Streams.{left_after}
-use Rattle.mlp_unit.specs.AccessUnit.{AccessUnit, in_force, stream_kind}
+use Rattle.mlp_unit.specs.AccessUnit.{AccessUnit, in_force, stream_kind, stream_rate}
 use Rattle.mlp_cut.specs.Cut.{unit_bytes}
 use Rattle.mlp_stream.specs.declared.refusal.Refusal.{Refusal}
 use Rattle.mlp_stream.specs.declared.refusal.Refusal.TheVariants as refused
@@ -14,13 +14,12 @@ use Rattle.mlp_fifo.specs.Schedule.{out_of}
 use Rattle.mlp_fifo.specs.LeftFifo.{LeftFifo}
 use Rattle.mlp_fifo.specs.Placed.{placed, emptied}
 use Rattle.mlp_present.specs.Decoding.{is_open_behind}
-use Rattle.mlp_sessions.specs.Playing.{rate_by}
 use Rattle.mlp_retime.specs.Top.{top}
 use Rattle.mlp_retime.specs.Retimed.{retimed, length_of, pace_in}
 
 -- an empty buffer for a stream with this first major sync
 abbrev pub fifo_for : Option MajorSync → LeftFifo
-fifo_for sync = emptied (stream_kind sync) (rate_by sync)
+fifo_for sync = emptied (stream_kind sync) (stream_rate sync)
 
 -- .. and behind units of these lengths, placed one after the other
 abbrev pub behind_placed : LeftFifo → Result (ℕ × LeftFifo) NoRoom → LeftFifo

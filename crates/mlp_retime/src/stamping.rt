@@ -8,19 +8,10 @@ ghost use Rattle.mlp_substream.specs.Timings.{stamp, stamp_head, stamped};
 ghost use Rattle.mlp_contents.specs.Units.{place_by};
 ghost use Rattle.mlp_retime.specs.Stamping.{restamped, restamped_from};
 
-use mlp_major::frames_per_unit;
+use mlp_major::{frames_per_unit, kind_of};
 use mlp_substream::{Known, Place, read_segment_into, write_segment};
 use mlp_syntax::{BlockHead, FormatInfo, Kind, MajorSync, Outer, Segment, UnitBytes};
 use mlp_unit::{segment_bytes, segment_range};
-
-pub fn kind_of(format: &FormatInfo) -> Kind
-    ensures { result ≡ kind_of format.now }
-{
-    match format {
-        FormatInfo::Fbb(_) => Kind::Fbb,
-        FormatInfo::Fba(_) => Kind::Fba,
-    }
-}
 
 /// The place of the segments of a unit with a major sync, in a stream with this first one.
 pub fn restart_place(first: &MajorSync) -> Place

@@ -1,9 +1,7 @@
 -- What `decode-raw` makes of a stream, for presentation k and so many bits a sample.
 use Rattle.std.specs.Prelude.{◌≡◌, ℕ, ◌+◌, min, Bool, List, [], ◌∷◌, length, Option, Some, None, Result, Ok, Err, ℤ}
 use Rattle.std.specs.Option.{option_map}
-use Rattle.mlp_syntax.specs.declared.major.MajorSync.{MajorSync}
 use Rattle.mlp_syntax.specs.declared.segment.Segment.{Segment}
-use Rattle.mlp_major.specs.MajorSync.{rate_in_hertz}
 use Rattle.mlp_unit.specs.AccessUnit.{AccessUnit}
 use Rattle.mlp_layout.specs.Streams.{left_after}
 use Rattle.mlp_walk.specs.declared.refusal.Refusal.{Refusal as Declined}
@@ -34,11 +32,6 @@ frames_given k left (u ∷ us) = length (frames_out k left u) + frames_given k (
 -- a frame has places for 8 channels
 abbrev pub places : ℕ → ℕ
 places channels = min channels 8
-
--- the sampling rate in hertz that a stream's first major sync tells
-abbrev pub rate_by : Option MajorSync → ℕ
-rate_by None = 0
-rate_by (Some major) = rate_in_hertz major
 
 -- what comes out of a unit: its frames, in as many channels as the presentation has behind it
 abbrev pub unit_played : ℕ → ℕ → ℕ → Left → Unit_of → Result (List ℕ) Refusal

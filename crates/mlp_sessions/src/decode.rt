@@ -1,14 +1,15 @@
 //! The session of `decode-raw`.
 ghost use Rattle.std.specs.Prelude.{◌≡◌, ◌+◌, ◌^◌, ◌<◌, ◌≤◌, ◌⊎◌, length, Ok, Err, IfOk, IfErr};
-ghost use Rattle.mlp_sessions.specs.Playing.{player, places, rate_by, played};
+ghost use Rattle.mlp_sessions.specs.Playing.{player, places, played};
+ghost use Rattle.mlp_unit.specs.AccessUnit.{stream_rate};
 
 use arrayvec::ArrayVec;
 use mlp_answers::refusal_of;
-use mlp_major::sample_rate;
 use mlp_pcm::pack_unit;
 use mlp_present::Decoder;
 use mlp_stream::{Refusal, Session};
 use mlp_syntax::UnitBytes;
+use mlp_unit::stream_rate;
 use std::marker::Model;
 
 /// Writes the samples of each access unit. To a contract it is its decoder, the bits of a sample, and the number of frames so
@@ -99,13 +100,10 @@ impl Decode {
 
     /// The sampling rate in hertz, 44100 to 192000; 0 where no unit was taken.
     pub fn rate(&self) -> u32
-        ensures rate { result ≡ rate_by self.now.held.left.sync }
+        ensures rate { result ≡ stream_rate self.now.held.left.sync }
         ensures most { result ≤ 192000 }
     {
-        match self.decoder.major() {
-            Some(major) => sample_rate(major),
-            None => 0,
-        }
+        stream_rate(self.decoder.major())
     }
 }
 

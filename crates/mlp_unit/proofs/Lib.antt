@@ -15,3 +15,5 @@ pub mod SegmentPlaces
 pub mod UnitRules
 pub mod FirstSyncs
 pub mod Fewer
+mod Rates
+pub mod BodyBits

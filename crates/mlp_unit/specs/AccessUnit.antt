@@ -10,7 +10,7 @@ use Rattle.mlp_syntax.specs.declared.fault.Field.TheVariants as rule
 use Rattle.mlp_bits.specs.Bits.{number}
 use Rattle.mlp_layout.specs.Layout.{Layout, Rule, number_of, ruled, tested, whole, part, made, marked, sized}
 use Rattle.mlp_layout.specs.Combined.{must, must_at, under, present, times}
-use Rattle.mlp_major.specs.MajorSync.{major_sync, sync, kind_of}
+use Rattle.mlp_major.specs.MajorSync.{major_sync, sync, kind_of, rate_in_hertz}
 use Rattle.mlp_unit.specs.Directory.{directory, directory_size, entry_size, first_failing, may_stand}
 
 -- the segments and what follows them are bytes
@@ -46,6 +46,11 @@ substreams_of (Some m) = m.substreams
 abbrev pub stream_kind : Option MajorSync → Kind
 stream_kind None = Fba
 stream_kind (Some m) = kind_of m.format
+
+-- the sampling rate in hertz
+abbrev pub stream_rate : Option MajorSync → ℕ
+stream_rate None = 0
+stream_rate (Some m) = rate_in_hertz m
 
 -- ---- the parts, which are tried in this order
 

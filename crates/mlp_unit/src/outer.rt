@@ -13,34 +13,12 @@ ghost use Rattle.mlp_unit.specs.Shape.{unit_of, unit_with, body_place, HasCount,
 use crate::directory::read_entries;
 use crate::head::{first_head, framed_head};
 use crate::rules::{first_bad_end, first_extra_word, first_restart_flag};
+use crate::stream::{in_force, stream_kind};
 use arrayvec::ArrayVec;
 use mlp_bits::{BitReader, nibble_parity};
 use mlp_layout::broken;
 use mlp_major::{SYNC, read_sync};
 use mlp_syntax::{Broken, DirEntry, Field, FormatInfo, Kind, MajorSync, Outer, UnitHead};
-
-/// The stream's first major sync, which may be this unit's.
-fn in_force<'a>(first: Option<&'a MajorSync>, major: &'a Option<MajorSync>) -> Option<&'a MajorSync>
-    ensures { option_copied result ≡ in_force (option_copied first.entry) major.now }
-{
-    match (first, major) {
-        (Some(first), _) => Some(first),
-        (None, Some(here)) => Some(here),
-        (None, None) => None,
-    }
-}
-
-fn stream_kind(sync: Option<&MajorSync>) -> Kind
-    ensures { result ≡ stream_kind (option_copied sync.entry) }
-{
-    match sync {
-        None => Kind::Fba,
-        Some(sync) => match sync.format {
-            FormatInfo::Fbb(_) => Kind::Fbb,
-            FormatInfo::Fba(_) => Kind::Fba,
-        },
-    }
-}
 
 /// Whether the unit has 8 bytes at least, and the bits behind its head are those of a sync.
 fn has_sync(unit: &[u8]) -> bool

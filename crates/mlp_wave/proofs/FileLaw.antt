@@ -11,7 +11,8 @@ use Rattle.mlp_contents.specs.Inner.{channels_of}
 use Rattle.mlp_contents.specs.Units.{Unit_of, start, whole}
 use Rattle.mlp_samples.specs.Leaving.{matrix_of, matrix_in_force}
 use Rattle.mlp_samples.proofs.Streams.{left_is}
-use Rattle.mlp_sessions.specs.Playing.{places, rate_by}
+use Rattle.mlp_sessions.specs.Playing.{places}
+use Rattle.mlp_unit.specs.AccessUnit.{stream_rate}
 use Rattle.mlp_decoded.specs.Decoded.{channels_in, channels, decoded}
 use Rattle.mlp_decoded.proofs.DecodedLaw.{writes}
 use Rattle.mlp_wave.specs.WaveFile.{wave_file, most_of_samples, stated_channels, stated_rate}
@@ -30,7 +31,7 @@ module _ (k bits : ℕ) (bytes : List ℕ) (us : List Unit_of) where
   file_is b =
       let left = left_is k (bits_of bytes) [] us b in
       ap (λ (n : ℕ). wave_file (places n) (stated_rate k us) bits (decoded k bits us)) (as_first _ _ (left.max_matrix k (omega arith)))
-      ∙ ap (λ (m : Option MajorSync). wave_file (channels k us) (rate_by m) bits (decoded k bits us)) left.sync
+      ∙ ap (λ (m : Option MajorSync). wave_file (channels k us) (stream_rate m) bits (decoded k bits us)) left.sync
 
   pub saves_stream : IsHeld k bits bytes us → padded (length (decoded k bits us)) ≤ most_of_samples → Saves k bits bytes (Ok tt) (stream_file k bits us)
   saves_stream h few =

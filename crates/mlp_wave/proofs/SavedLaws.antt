@@ -10,7 +10,8 @@ use Rattle.mlp_answers.specs.Answers.{AreUnits, Answer}
 use Rattle.mlp_answers.specs.Works.{Wrote as WroteRaw}
 use Rattle.mlp_pcm.specs.WaveHeader.{padded}
 use Rattle.mlp_contents.specs.Units.{Left, Unit_of}
-use Rattle.mlp_sessions.specs.Playing.{places, rate_by, playing, Player, player, decode_step, decode_last, Played}
+use Rattle.mlp_sessions.specs.Playing.{places, playing, Player, player, decode_step, decode_last, Played}
+use Rattle.mlp_unit.specs.AccessUnit.{stream_rate}
 use Rattle.mlp_sessions.proofs.PlayFollows.{decode_works, decode_took}
 use Rattle.mlp_wave.specs.Failures.{failure_by, end_of}
 use Rattle.mlp_wave.specs.WaveFile.{wave_file, most_of_samples, stated_channels, stated_rate, PutFile}
@@ -52,12 +53,12 @@ module _ (k bits : ℕ) where
   -- ---- all was decoded
 
   abbrev file_by : Player → List ℕ → List ℕ
-  file_by t samples = wave_file (places t.held.channels) (rate_by t.held.left.sync) bits samples
+  file_by t samples = wave_file (places t.held.channels) (stream_rate t.held.left.sync) bits samples
 
   file_is : (t : Player) (us : List Unit_of) (samples : List ℕ) → Played k bits us t → file_by t samples ≡ wave_file (stated_channels k us) (stated_rate k us) bits samples
   file_is t us samples h =
-      ap (λ (n : ℕ). wave_file (places n) (rate_by t.held.left.sync) bits samples) h.channels
-      ∙ ap (λ (left : Left). wave_file (stated_channels k us) (rate_by left.sync) bits samples) h.left
+      ap (λ (n : ℕ). wave_file (places n) (stream_rate t.held.left.sync) bits samples) h.channels
+      ∙ ap (λ (left : Left). wave_file (stated_channels k us) (stream_rate left.sync) bits samples) h.left
 
   -- decode-raw gives these samples, and the session took all units
   record Decoded (t : Player) (input : Side) (samples : List ℕ) : Type 0 where
@@ -101,7 +102,7 @@ module _ (k bits : ℕ) where
 
   pub saved_file : (t : Player) (input output : Side) (samples bytes : List ℕ) (channels rate : ℕ) (r : Result Unit Stop)
       → Pumped decode_step decode_last 0 (player k bits) t input (record { before = Some []; behind = Some samples }) (Ok tt)
-      → channels ≡ places t.held.channels → rate ≡ rate_by t.held.left.sync → bytes ≡ samples → PutFile bytes (wave_file channels rate bits bytes) output r → Saved k bits input output (end_of r)
+      → channels ≡ places t.held.channels → rate ≡ stream_rate t.held.left.sync → bytes ≡ samples → PutFile bytes (wave_file channels rate bits bytes) output r → Saved k bits input output (end_of r)
   saved_file t input output samples bytes channels rate r p c e b f =
       let memory : Side = record { before = Some []; behind = Some samples } in
       let w = decode_works k bits t input memory (Ok tt) p in

@@ -6,7 +6,7 @@ use Rattle.mlp_layout.specs.Streams.{Stream}
 use Rattle.mlp_pcm.specs.Samples.{first_low}
 use Rattle.mlp_contents.specs.Units.{Unit_of, start, whole}
 use Rattle.mlp_samples.specs.Samples.{samples, first_sync}
-use Rattle.mlp_sessions.specs.Playing.{rate_by}
+use Rattle.mlp_unit.specs.AccessUnit.{stream_rate}
 use Rattle.mlp_decoded.specs.Decoded.{channels, decoded}
 use Rattle.mlp_wave.specs.WaveFile.{wave_file}
 
@@ -18,4 +18,4 @@ pub record IsHeld (k bits : ℕ) (bytes : List ℕ) (us : List Unit_of) : Type 0
 
 -- the file of the samples, in the channels of the presentation and at the rate of the first major sync
 abbrev pub stream_file : ℕ → ℕ → List Unit_of → List ℕ
-stream_file k bits us = wave_file (channels k us) (rate_by (first_sync us)) bits (decoded k bits us)
+stream_file k bits us = wave_file (channels k us) (stream_rate (first_sync us)) bits (decoded k bits us)

@@ -9,7 +9,8 @@ use Rattle.mlp_stream.specs.Gathers.{IsWriteStop}
 use Rattle.mlp_pcm.specs.WaveHeader.{padded, wave_header}
 use Rattle.mlp_contents.specs.Units.{Unit_of, start, whole}
 use Rattle.mlp_present.specs.Decoding.{channels_by}
-use Rattle.mlp_sessions.specs.Playing.{places, rate_by}
+use Rattle.mlp_sessions.specs.Playing.{places}
+use Rattle.mlp_unit.specs.AccessUnit.{stream_rate}
 
 -- a header, the bytes of the samples, and a padding byte where their number is odd
 abbrev pub wave_file : ℕ → ℕ → ℕ → List ℕ → List ℕ
@@ -25,7 +26,7 @@ abbrev pub stated_channels : ℕ → List Unit_of → ℕ
 stated_channels k us = places (channels_by k (left_after (whole k) (start k) us))
 
 abbrev pub stated_rate : ℕ → List Unit_of → ℕ
-stated_rate k us = rate_by (left_after (whole k) (start k) us).sync
+stated_rate k us = stream_rate (left_after (whole k) (start k) us).sync
 
 -- a file of these samples was written, or the front of it, or nothing where they are too many
 abbrev pub PutFile : List ℕ → List ℕ → Side → Result Unit Stop → Type 0
