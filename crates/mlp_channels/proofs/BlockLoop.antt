@@ -32,7 +32,8 @@ module _ (place : Place) (first : Option State) (heads : List BlockHead) (codes 
   pub left_all : (due : Bool) → ArePlayable place due first heads codes → ForceFits place first → Left first heads codes 0 before old
   left_all due playable fits = record { due = due; playable = playable; fits = fits; force = refl; coded = λ c e. refl; others = λ c e. refl; pasts = λ c. refl; count = refl }
 
-  pub this_block : (state : Option State) (h : BlockHead) (hs : List BlockHead) (cs : List FrameCode) (n : ℕ) (now : List Past) (new : List (List ℤ)) (l : Left state (h ∷ hs) cs n now new) → IsPlayable place l.due state h (take h.frames cs)
+  pub this_block : (state : Option State) (h : BlockHead) (hs : List BlockHead) (cs : List FrameCode) (n : ℕ) (now : List Past) (new : List (List ℤ)) (l : Left state (h ∷ hs) cs n now new)
+      → IsPlayable place l.due state h (take h.frames cs)
   unfolding ArePlayable
   this_block state h hs cs n now new l = l.playable.0
 

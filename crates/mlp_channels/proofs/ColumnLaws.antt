@@ -46,7 +46,8 @@ column-put_same c a k frames part e =
     let front = take a frames in
     let rest = drop a frames in
     column-append c front (part ++ drop k rest)
-    ∙ ap (λ (xs : List ℤ). column c front ++ xs) (column-append c part (drop k rest) ∙ ap (λ (xs : List ℤ). xs ++ column c (drop k rest)) e ∙ sym (column-append c (take k rest) (drop k rest)) ∙ ap (column c) (take-append-drop k rest))
+    ∙ ap (λ (xs : List ℤ). column c front ++ xs) (column-append c part (drop k rest) ∙ ap (λ (xs : List ℤ). xs ++ column c (drop k rest)) e
+    ∙ sym (column-append c (take k rest) (drop k rest)) ∙ ap (column c) (take-append-drop k rest))
     ∙ sym (column-append c front rest)
     ∙ ap (column c) (take-append-drop a frames)
 

@@ -123,5 +123,7 @@ codes_channel (Some s) c = is_coded s c
 
 -- frames after a segment has been played: the channels that it codes are new in the first n, the others stay
 pub record HasPlayed (place : Place) (x : Coded) (s : Segment) (n : ℕ) (old new : List (List ℤ)) : Type 0 where
-  pub coded : (c : ℕ) → codes_channel (force_after place x.force s.blocks.items) c ≡ true → take n (column c new) ≡ outputs_in place x s c
-  pub others : (c : ℕ) → codes_channel (force_after place x.force s.blocks.items) c ≡ false → column c new ≡ column c old
+  pub coded : (c : ℕ) → codes_channel (force_after place x.force s.blocks.items) c ≡ true
+      → take n (column c new) ≡ outputs_in place x s c
+  pub others : (c : ℕ) → codes_channel (force_after place x.force s.blocks.items) c ≡ false
+      → column c new ≡ column c old

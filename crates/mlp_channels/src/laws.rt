@@ -11,10 +11,12 @@ ghost use Rattle.mlp_substream.specs.Playable.{ArePlayable};
 ghost use Rattle.mlp_channels.specs.Channels.{codes_channel, channel_frames};
 
 /// The frames of a channel in blocks that can be played: their filters have at most 8 and 4 coefficients and their
-/// states at most 4 values; there is one for each code where the channel is coded; and those of blocks behind others follow.
+/// states at most 4 values; there is one for each code where the channel is coded;
+/// and those of blocks behind others follow.
 pub fn law_channel_frames()
     ensures within { (place : Place) (force : Option State) (due : Bool) (c : ℕ) (heads : List BlockHead)
-        (codes : List FrameCode) → IsPlace place → ForceFits place force → ArePlayable place due force heads codes →
+        (codes : List FrameCode) → IsPlace place → ForceFits place force
+        → ArePlayable place due force heads codes →
         All (IsWithin 8 4) (channel_frames place force c heads codes) }
     ensures count { (place : Place) (force : Option State) (due : Bool) (c : ℕ) (heads : List BlockHead)
         (codes : List FrameCode) → ArePlayable place due force heads codes →
@@ -40,7 +42,8 @@ pub fn law_same_frames()
 
 /// Which channels a substream codes changes at a restart alone, to those of its header.
 pub fn law_coded()
-    ensures kept { (place : Place) (force : Option State) (c : ℕ) (heads : List BlockHead) (codes : List FrameCode) →
+    ensures kept { (place : Place) (force : Option State) (c : ℕ)
+        (heads : List BlockHead) (codes : List FrameCode) →
         ArePlayable place false force heads codes →
         codes_channel (force_after place force heads) c ≡ codes_channel force c }
     ensures restarted { (place : Place) (due : Bool) (force : Option State) (c : ℕ) (h : BlockHead)

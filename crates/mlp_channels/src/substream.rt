@@ -73,8 +73,8 @@ impl Substream {
         reset_all(&mut self.predictors);
     }
 
-    /// Reads the segment of the next unit into `segment`, by what is known of it from elsewhere, and puts the outputs of
-    /// the channels that it codes into the first frames, one for each code. The other channels of `frames` stay.
+    /// Reads the segment of the next unit into `segment`, by what is known of it from elsewhere, and puts the outputs
+    /// of the channels that it codes into the first frames, one for each code. The other channels of `frames` stay.
     ///
     /// # Errors
     ///
@@ -92,7 +92,8 @@ impl Substream {
         requires place { IsPlace place.now }
         requires state { ForceFits place.now self.old.force }
         ensures read { MatchResult result
-            (λ _. (segment_layout place.now known.now self.old.force checked).read (bits_of bytes.now) ≡ Ok segment.new)
+            (λ _. (segment_layout place.now known.now self.old.force checked).read (bits_of bytes.now)
+            ≡ Ok segment.new)
             (λ e. (segment_layout place.now known.now self.old.force checked).read (bits_of bytes.now) ≡ Err e) }
         ensures coded { OnOk result (self.new ≡ coded_after place.now self.old segment.new) }
         ensures state { OnOk result (ForceFits place.now self.new.force) }

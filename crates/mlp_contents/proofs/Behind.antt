@@ -319,7 +319,8 @@ pub record IsNext (place : Place) (xs : List Coded) (check covered : ℕ) (first
 
 pub behind_next : (place : Place) (xs : List Coded) (before : List Segment) (s : Segment) (check covered : ℕ) (first : Option Ending) (now : List Coded) (top : Segment) (old new : List (List ℤ)) (is_last : Bool) (at : ℕ)
     → Behind place xs before covered first now top old → length before ≡ at → IsCovered (coded_at xs (length xs - 1)).force xs → IsNext place xs check covered first now is_last s old new at
-    → (covers : ℕ) → covers ≡ covered_by (before ++ s ∷ []) → (later : Option Ending) → later ≡ ending_of (before ++ s ∷ []) → Behind place xs (before ++ s ∷ []) covers later (set now at (coded_after place (coded_at now at) s)) s new
+    → (covers : ℕ) → covers ≡ covered_by (before ++ s ∷ []) → (later : Option Ending) → later ≡ ending_of (before ++ s ∷ [])
+    → Behind place xs (before ++ s ∷ []) covers later (set now at (coded_after place (coded_at now at) s)) s new
 behind_next place xs before s check covered first now top old new is_last at b count start next covers covers_is later later_is =
     let here = subst (IsNext place xs check covered first now is_last s old new) (sym count) next in
     subst (λ (n : ℕ). Behind place xs (before ++ s ∷ []) covers later (set now n (coded_after place (coded_at now n) s)) s new) count

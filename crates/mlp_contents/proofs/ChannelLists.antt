@@ -60,7 +60,8 @@ coded_here place (x ∷ xs) [] s c lt h = ap (λ (b : Bool). cond {A = Bool} b t
 coded_here place (x ∷ xs) (b ∷ before) s c lt h =
     ap (λ (t : Bool). cond {A = Bool} (codes_channel (force_here place x b) c) true t) (coded_here place xs before s c (omega arith) h) ∙ either_true (codes_channel (force_here place x b) c)
 
-coded_before : (place : Place) (xs : List Coded) (before : List Segment) (s : Segment) (c : ℕ) → length before < length xs → codes_here place xs before s c ≡ false → is_coded_by place xs (before ++ s ∷ []) c ≡ is_coded_by place xs before c
+coded_before : (place : Place) (xs : List Coded) (before : List Segment) (s : Segment) (c : ℕ) → length before < length xs
+    → codes_here place xs before s c ≡ false → is_coded_by place xs (before ++ s ∷ []) c ≡ is_coded_by place xs before c
 coded_before place [] before s c lt h = absurd (omega arith)
 coded_before place (x ∷ xs) [] s c lt h = ap (λ (b : Bool). cond {A = Bool} b true (is_coded_by place xs [] c)) h ∙ none_coded place xs c
 coded_before place (x ∷ xs) (b ∷ before) s c lt h = ap (λ (t : Bool). cond {A = Bool} (codes_channel (force_here place x b) c) true t) (coded_before place xs before s c (omega arith) h)
@@ -71,7 +72,8 @@ channel_here place [] before s c lt h = absurd (omega arith)
 channel_here place (x ∷ xs) [] s c lt h = rw (none_coded place xs c, h) refl
 channel_here place (x ∷ xs) (b ∷ before) s c lt h = rw (coded_here place xs before s c (omega arith) h) (channel_here place xs before s c (omega arith) h)
 
-channel_before : (place : Place) (xs : List Coded) (before : List Segment) (s : Segment) (c : ℕ) → length before < length xs → codes_here place xs before s c ≡ false → channel place xs (before ++ s ∷ []) c ≡ channel place xs before c
+channel_before : (place : Place) (xs : List Coded) (before : List Segment) (s : Segment) (c : ℕ) → length before < length xs
+    → codes_here place xs before s c ≡ false → channel place xs (before ++ s ∷ []) c ≡ channel place xs before c
 channel_before place [] before s c lt h = absurd (omega arith)
 channel_before place (x ∷ xs) [] s c lt h = rw (none_coded place xs c, h) refl
 channel_before place (x ∷ xs) (b ∷ before) s c lt h = rw (coded_before place xs before s c (omega arith) h, channel_before place xs before s c (omega arith) h) refl

@@ -63,7 +63,8 @@ module _ (place : Place) (s : State) (top : Segment) (frames : List (List ℤ)) 
         check_is = check_is ∙ ap (check_of check) same;
       }
 
-  pub gives : IsState s → n ≤ length frames → ((i : ℕ) → i < length frames → length (get_or frames i []) ≡ 10) → PutOut → (channels : ℕ → List ℤ) → HaveMatrixed (Some s) channels n frames → IsGiven place channels top (Some s) old new rows
+  pub gives : IsState s → n ≤ length frames → ((i : ℕ) → i < length frames → length (get_or frames i []) ≡ 10) → PutOut
+      → (channels : ℕ → List ℤ) → HaveMatrixed (Some s) channels n frames → IsGiven place channels top (Some s) old new rows
   gives lawful enough wide p channels have =
       let few = channels_few s lawful in
       let cut = map (take (m + 1)) (take n frames) in

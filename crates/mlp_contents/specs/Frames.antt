@@ -25,10 +25,11 @@ channel place (x ∷ xs) (s ∷ ss) c =
 
 -- so many frames of the channels 0 to m
 abbrev pub frames_of : (ℕ → List ℤ) → ℕ → ℕ → List (List ℤ)
-frames_of channels m n = map (λ i. map (λ c. slice_index_or (channels c) i (pos 0)) (range_with_len 0 (m + 1))) (range_with_len 0 n)
+frames_of channels m n =
+    map (λ i. map (λ c. slice_index_or (channels c) i (pos 0)) (range_with_len 0 (m + 1))) (range_with_len 0 n)
 
--- the samples of the matrix channels in each frame that isn't dropped, of these channels, by the segment of the last substream
--- that is read and what is in force behind it. A restart in the unit gives the seed
+-- the samples of the matrix channels in each frame that isn't dropped, of these channels, by the segment of the last
+-- substream that is read and what is in force behind it. A restart in the unit gives the seed
 abbrev pub heard_in : Place → (ℕ → List ℤ) → ℕ → Segment → Option State → List (List ℤ)
 heard_in place channels seed top None = []
 heard_in place channels seed top (Some s) =

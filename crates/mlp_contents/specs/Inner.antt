@@ -41,7 +41,8 @@ channels_of (Some s) = s.restart.max_matrix + 1
 -- in a stream with this first major sync: what is in force fits it, and before it nothing is
 abbrev pub ForcesFit : Option MajorSync → List Coded → Type 0
 ForcesFit None xs = (j : ℕ) → (coded_at xs j).force ≡ None
-ForcesFit (Some m) xs = (j : ℕ) → IfSome (coded_at xs j).force (FitsPlace (stream_kind (Some m)) (frames_in_unit (Some m)))
+ForcesFit (Some m) xs = (j : ℕ)
+    → IfSome (coded_at xs j).force (FitsPlace (stream_kind (Some m)) (frames_in_unit (Some m)))
 
 -- is channel c coded by one of these substreams?
 abbrev pub is_coded_in : List Coded → ℕ → Bool
@@ -69,14 +70,18 @@ unit_fault e = record { substream = e.substream; field = e.field; bit = e.bit }
 abbrev pub unit_with_contents : AccessUnit → List Segment → Unit_of
 unit_with_contents o ss = record { outer = o; contents = ss }
 
--- of the unit with this outer part, whose bits these are, the segments were read: what it leaves, and the frames that it gives
-pub record IsTaken (sync : Option MajorSync) (o : AccessUnit) (text : List Bool) (old new : Inner) (rows : List (List ℤ)) : Type 0 where
+-- of the unit with this outer part, whose bits these are, the segments were read: what it leaves,
+-- and the frames that it gives
+pub record IsTaken (sync : Option MajorSync) (o : AccessUnit)
+    (text : List Bool) (old new : Inner) (rows : List (List ℤ)) : Type 0 where
   pub contents : List Segment
   pub read : ((whole old.last).contents (left_of sync old) o).read text ≡ Ok contents
   pub left : left_of (in_force sync o.major) new ≡ after old.last (left_of sync old) (unit_with_contents o contents)
   pub rows_are : rows ≡ frames_out old.last (left_of sync old) (unit_with_contents o contents)
 
 -- .. or the first rule that fails in them
-abbrev pub IsTakenOr : Option MajorSync → AccessUnit → List Bool → Inner → Inner → List (List ℤ) → Result (Unit {0}) SegmentFault → Type 0
+abbrev pub IsTakenOr : Option MajorSync → AccessUnit → List Bool → Inner
+    → Inner → List (List ℤ) → Result (Unit {0}) SegmentFault → Type 0
 IsTakenOr sync o text old new rows (Ok done) = IsTaken sync o text old new rows
-IsTakenOr sync o text old new rows (Err e) = ((whole old.last).contents (left_of sync old) o).read text ≡ Err (unit_fault e)
+IsTakenOr sync o text old new rows (Err e) =
+    ((whole old.last).contents (left_of sync old) o).read text ≡ Err (unit_fault e)

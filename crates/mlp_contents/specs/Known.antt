@@ -24,11 +24,12 @@ has_channel c (Some r) = nat_le r.min c && nat_le c r.max
 
 -- bit c: one of these segments codes channel c from its restart on
 abbrev pub covered_by : List Segment → ℕ
-covered_by ss = packed (map (λ c. list_any (λ s. has_channel c (first_restart s.blocks.items)) ss) (range_with_len 0 8))
+covered_by ss =
+    packed (map (λ c. list_any (λ s. has_channel c (first_restart s.blocks.items)) ss) (range_with_len 0 8))
 
--- What is known of a segment by what is in force before it, the channels that earlier segments of the unit code, and how
--- substream 0 ends. The channels and the check of the interval so far decide in the last substream that is read. A check is
--- due where something is in force, which is nowhere before unit 0
+-- What is known of a segment by what is in force before it, the channels that earlier segments of the unit code, and
+-- how substream 0 ends. The channels and the check of the interval so far decide in the last substream that is read. A
+-- check is due where something is in force, which is nowhere before unit 0
 abbrev pub known_by : Bool → Option State → ℕ → ℕ → Option Ending → Known
 known_by is_last force check covered first = record {
   max_matrix = option_map (λ s. s.restart.max_matrix) force;

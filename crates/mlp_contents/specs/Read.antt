@@ -18,10 +18,12 @@ ForcesAre place xs = (j : ℕ) → ForceFits place (coded_at xs j).force
 
 -- the first n frames have each channel that one of these substreams codes
 abbrev pub HaveChannels : Place → List Coded → List Segment → ℕ → List (List ℤ) → Type 0
-HaveChannels place xs ss n frames = (c : ℕ) → is_coded_by place xs ss c ≡ true → take n (column c frames) ≡ channel place xs ss c
+HaveChannels place xs ss n frames =
+    (c : ℕ) → is_coded_by place xs ss c ≡ true → take n (column c frames) ≡ channel place xs ss c
 
 -- of these substreams the segments were read, the last of which is this one
-pub record HasRead (place : Place) (old new : List Coded) (ss : List Segment) (top : Segment) (frames : List (List ℤ)) : Type 0 where
+pub record HasRead (place : Place) (old new : List Coded) (ss : List Segment)
+    (top : Segment) (frames : List (List ℤ)) : Type 0 where
   pub count : length ss ≡ length old
   pub top_is : top ≡ top_of (length old - 1) ss
   pub coded : new ≡ coded_each place old ss
@@ -37,7 +39,8 @@ AreWide frames = (i : ℕ) → i < length frames → length (slice_index_or fram
 -- the first n frames have each channel up to the greatest matrix channel
 abbrev pub HaveMatrixed : Option State → (ℕ → List ℤ) → ℕ → List (List ℤ) → Type 0
 HaveMatrixed None channels n frames = Unit {0}
-HaveMatrixed (Some s) channels n frames = (c : ℕ) → c ≤ s.restart.max_matrix → take n (column c frames) ≡ channels c
+HaveMatrixed (Some s) channels n frames =
+    (c : ℕ) → c ≤ s.restart.max_matrix → take n (column c frames) ≡ channels c
 
 -- the noise seed and the check of an interval so far
 pub record Running : Type 0 where
@@ -45,7 +48,8 @@ pub record Running : Type 0 where
   pub check : ℕ
 
 -- these are the frames that a unit gives, of these channels, and what it leaves of the interval
-pub record IsGiven (place : Place) (channels : ℕ → List ℤ) (top : Segment) (force : Option State) (old new : Running)
+pub record IsGiven (place : Place) (channels : ℕ → List ℤ)
+    (top : Segment) (force : Option State) (old new : Running)
     (rows : List (List ℤ)) : Type 0 where
   pub rows_are : rows ≡ placed_by force (heard_in place channels old.seed top force)
   pub seed : new.seed ≡ seed_at (if place.major then seed_of force else old.seed) (length top.codes.items)
@@ -59,4 +63,5 @@ pub record HasTakenContents (place : Place) (ss : List Segment) (old new : List 
   pub forces : ForcesAre place new
   pub covered : IsCovered (coded_at new (length old - 1)).force new
   pub ended_is : ended ≡ list_any (λ s. is_some s.terminator) ss
-  pub given : IsGiven place (channel place old ss) (top_of (length old - 1) ss) (coded_at new (length old - 1)).force before behind rows
+  pub given : IsGiven place (channel place old ss) (top_of (length old - 1) ss)
+      (coded_at new (length old - 1)).force before behind rows

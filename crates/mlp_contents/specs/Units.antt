@@ -21,8 +21,8 @@ use Rattle.mlp_matrix.specs.Noise.{seed_at}
 use Rattle.mlp_contents.specs.Known.{known}
 use Rattle.mlp_contents.specs.Frames.{channel, heard_in}
 
--- what units leave: the first major sync, whether one had a terminator, of each substream what is in force and the past of
--- its channels, and of the interval so far the noise seed and the check
+-- what units leave: the first major sync, whether one had a terminator, of each substream what is in force and the past
+-- of its channels, and of the interval so far the noise seed and the check
 pub record Left : Type 0 where
   pub sync : Option MajorSync
   pub ended : Bool
@@ -56,14 +56,16 @@ abbrev pub place_of : Left → AccessUnit → Place
 place_of left o = place_by left.sync o.major
 
 abbrev pub is_checked : List DirEntry → ℕ → Bool
-is_checked es j = (slice_index_or es j (record { extra = None; restart_absent = false; checked = false; reserved = false; end = 0 })).checked
+is_checked es j = (slice_index_or es j
+    (record { extra = None; restart_absent = false; checked = false; reserved = false; end = 0 })).checked
 
 -- the segment behind these, of the substream whose number is that of the segments before
 unfoldable pub portion : ℕ → Place → List Coded → ℕ → AccessUnit → List Segment → Portion Segment
 portion last place xs check o before = record {
   first = 8 * (body_place o + 2 * end_before o.entries (length before));
   size = 16 * (end_at o.entries (length before) - end_before o.entries (length before));
-  text = segment place (known last (coded_at xs (length before)).force check before) (coded_at xs (length before)).force (is_checked o.entries (length before));
+  text = segment place (known last (coded_at xs (length before)).force check before)
+      (coded_at xs (length before)).force (is_checked o.entries (length before));
 }
 
 -- each substream behind its segment
@@ -73,14 +75,21 @@ coded_each place (x ∷ xs) [] = x ∷ xs
 coded_each place (x ∷ xs) (s ∷ ss) = coded_after place x s ∷ coded_each place xs ss
 
 abbrev pub no_segment : Segment
-no_segment = record { blocks = record { items = [] }; codes = record { items = [] }; padding = 0; terminator = None; checked = false }
+no_segment = record {
+  blocks = record { items = [] };
+  codes = record { items = [] };
+  padding = 0;
+  terminator = None;
+  checked = false;
+}
 
 -- the segment of the greatest substream that is read
 abbrev pub top_of : ℕ → List Segment → Segment
 top_of k ss = slice_index_or ss k no_segment
 
 abbrev pub force_behind : ℕ → Left → Unit_of → Option State
-force_behind k left u = force_after (place_of left u.outer) (coded_at left.substreams k).force (top_of k u.contents).blocks.items
+force_behind k left u =
+    force_after (place_of left u.outer) (coded_at left.substreams k).force (top_of k u.contents).blocks.items
 
 -- the samples of the matrix channels in each frame of a unit
 unfoldable pub heard_of : ℕ → Left → Unit_of → List (List ℤ)
@@ -105,7 +114,8 @@ after k left u = record {
   sync = in_force left.sync u.outer.major;
   ended = list_any (λ s. is_some s.terminator) u.contents;
   substreams = coded_each (place_of left u.outer) left.substreams u.contents;
-  seed = seed_at (if is_some u.outer.major then seed_of (force_behind k left u) else left.seed) (length (top_of k u.contents).codes.items);
+  seed = seed_at (if is_some u.outer.major then seed_of (force_behind k left u) else left.seed)
+      (length (top_of k u.contents).codes.items);
   check = check_of (if is_some u.outer.major then 0 else left.check) (heard_of k left u);
 }
 

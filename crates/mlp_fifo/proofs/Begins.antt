@@ -19,7 +19,8 @@ use Rattle.mlp_fifo.proofs.FirstTimes.{IsFirst, within, first_is}
 use Rattle.mlp_fifo.proofs.Next.{IsNext}
 
 -- the sum of the latest lengths is that of the latest units
-pub sum_shown : (b : ℕ → ℕ) (latest : List ℕ) (n units : ℕ) → Shows b latest n → length latest ≤ n → units ≤ length latest → sum_from (λ i. get_or latest i 0) (length latest - units) units ≡ sum_from b (n - units) units
+pub sum_shown : (b : ℕ → ℕ) (latest : List ℕ) (n units : ℕ) → Shows b latest n → length latest ≤ n → units ≤ length latest
+    → sum_from (λ i. get_or latest i 0) (length latest - units) units ≡ sum_from b (n - units) units
 sum_shown b latest n units shows h l =
     sum_same (λ i. get_or latest i 0) b (length latest - units) (n - units) units
     (λ i k. shows (length latest - units + i) (omega arith) ∙ ap b (let e : n - length latest + (length latest - units + i) ≡ n - units + i = omega arith in e))

@@ -16,7 +16,8 @@ use Rattle.mlp_fifo.proofs.Loads.{sum_same}
 pub kept_length : (xs : List ℕ) → length (keep_last 91 xs) ≡ min 91 (length xs)
 kept_length xs = omega (arith, length-drop (length xs - 91) xs)
 
-pub held_pushed : (latest : List ℕ) (held : Held) (bytes : ℕ) → IsHeld latest held → held.units ≤ 90 → length latest ≤ 91 → IsHeld (keep_last 91 (latest ++ bytes ∷ [])) (record { units = held.units + 1; bytes = held.bytes + bytes })
+pub held_pushed : (latest : List ℕ) (held : Held) (bytes : ℕ) → IsHeld latest held → held.units ≤ 90 → length latest ≤ 91
+    → IsHeld (keep_last 91 (latest ++ bytes ∷ [])) (record { units = held.units + 1; bytes = held.bytes + bytes })
 held_pushed latest held bytes h most l = record {
   units_most = omega (arith, kept_length all, long, h.units_most);
   bytes_are = omega (arith, h.bytes_are, before, last, cut, ap (λ u. sum_from (λ i. get_or (keep_last 91 all) i 0) (length (keep_last 91 all) - u) u) (let e : suc held.units ≡ held.units + 1 = omega arith in e));

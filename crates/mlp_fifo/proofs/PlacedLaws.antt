@@ -157,7 +157,8 @@ one_on : (before : List ℕ) (b : ℕ) (rest : List ℕ) → (before ++ b ∷ []
 one_on before b rest = append_assoc before (b ∷ []) rest
 
 -- a unit for which there is no room behind units before
-lacks : (kind : Kind) (rate : ℕ) (rest before : List ℕ) (b : ℕ) (left : LeftFifo) → Leaves kind rate before left → HasNone kind rate (before ++ b ∷ []) → LacksRoom kind rate (before ++ b ∷ rest) (record { unit = left.count; bytes = b })
+lacks : (kind : Kind) (rate : ℕ) (rest before : List ℕ) (b : ℕ) (left : LeftFifo) → Leaves kind rate before left
+    → HasNone kind rate (before ++ b ∷ []) → LacksRoom kind rate (before ++ b ∷ rest) (record { unit = left.count; bytes = b })
 lacks kind rate rest before b left h none = record {
   within = omega (arith, length-append before (b ∷ rest), h.count_is);
   bytes_are = sym (get_or_push before b 0 left.count (sym h.count_is)) ∙ sym (get_or_append_left (before ++ b ∷ []) rest 0 left.count (omega (arith, length_push before b, h.count_is)))
@@ -173,7 +174,8 @@ lacks kind rate rest before b left h none = record {
         ∙ take_all (suc left.count) (before ++ b ∷ []) (omega (arith, length_push before b, h.count_is))
 
 -- a unit for which there is
-begin_on : (kind : Kind) (rate : ℕ) (before times : List ℕ) (b : ℕ) (left : LeftFifo) → (h : Leaves kind rate before left) → BeginAt kind rate before times → finish_after left b ≤ out_of (pace_of left.kind left.rate) left.count
+begin_on : (kind : Kind) (rate : ℕ) (before times : List ℕ) (b : ℕ) (left : LeftFifo) → (h : Leaves kind rate before left)
+    → BeginAt kind rate before times → finish_after left b ≤ out_of (pace_of left.kind left.rate) left.count
     → BeginAt kind rate (before ++ b ∷ []) (times ++ begins left b ∷ [])
 begin_on kind rate before times b left h begin there = record {
   as_many = omega (arith, length_push before b, length_push times (begins left b), begin.as_many);
@@ -194,7 +196,8 @@ goes_on rest (Ok r) = with_time r.0 (placed_all rest r.1)
 goes_on rest (Err e) = Err e
 
 -- behind units before, of which the times are known
-more_means : (kind : Kind) (rate : ℕ) (rest before times : List ℕ) (left : LeftFifo) → Leaves kind rate before left → BeginAt kind rate before times → AllPlacedMean kind rate (before ++ rest) (with_times times (placed_all rest left))
+more_means : (kind : Kind) (rate : ℕ) (rest before times : List ℕ) (left : LeftFifo) → Leaves kind rate before left
+    → BeginAt kind rate before times → AllPlacedMean kind rate (before ++ rest) (with_times times (placed_all rest left))
 unfolding with_times
 more_means kind rate [] before times left h begin =
     subst (λ bs. AllPlacedMean kind rate bs (Ok (times ++ [], left))) (sym (append-nil before)) (subst (λ ts. BeginAt kind rate before ts) (sym (append-nil times)) begin, h)

@@ -77,13 +77,15 @@ after p b s zero q = omega arith
 after p b s (suc n) q = q.apart n (omega arith)
 
 -- a schedule goes on with a unit that may begin at x
-pub extended : (p : Pace) (b t : ℕ → ℕ) (n x : ℕ) → IsSchedule p b t n → t n ≡ x → n * p.unit ≤ x → finish_of p b t n ≤ x → load p b (suc n) x ≤ p.size → x + duration_of p (b n) ≤ out_of p n → IsSchedule p b t (suc n)
+pub extended : (p : Pace) (b t : ℕ → ℕ) (n x : ℕ) → IsSchedule p b t n → t n ≡ x → n * p.unit ≤ x → finish_of p b t n ≤ x
+    → load p b (suc n) x ≤ p.size → x + duration_of p (b n) ≤ out_of p n → IsSchedule p b t (suc n)
 extended p b t n x q here start arrived fits ends = record {
   start = λ i l. elim (dec_lt i n) [ yes k ↦ q.start i k | no k ↦ (let e : n ≡ i = omega arith in subst (λ j. j * p.unit ≤ t j) e (omega arith)) ];
   in_time = λ i l. elim (dec_lt i n) [ yes k ↦ q.in_time i k | no k ↦ (let e : n ≡ i = omega arith in subst (λ j. t j + duration_of p (b j) ≤ out_of p j) e (omega arith)) ];
   apart = steps;
   room = λ time. elim (dec_le x time) [
-    | yes k ↦ (let e : held p b t (suc n) time ≡ load p b (suc n) time = held_begun p b t (suc n) time (λ i l. omega (arith, rises p b t (suc n) steps n (omega arith) i (omega arith))) in omega (arith, e, load_falls p b (suc n) x time k))
+    | yes k ↦ (let e : held p b t (suc n) time ≡ load p b (suc n) time = held_begun p b t (suc n) time (λ i l. omega (arith, rises p b t (suc n) steps n (omega arith) i (omega arith))) in
+        omega (arith, e, load_falls p b (suc n) x time k))
     | no k ↦ omega (arith, q.room time, waiting_one (out_of p n) (b n) (t n) time (omega arith))
   ];
 }

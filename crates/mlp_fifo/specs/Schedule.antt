@@ -51,12 +51,14 @@ DurationIsLeast = (p : Pace) (bytes d : ℕ) → 0 < p.peak → 128 * bytes ≤ 
 
 -- where units have a schedule they have an earliest one
 abbrev pub HasEarliest : Type 0
-HasEarliest = (p : Pace) (b s : ℕ → ℕ) (n : ℕ) → IsSchedule p b s n → (t : ℕ → ℕ) × IsEarliest p b t n
+HasEarliest = (p : Pace) (b s : ℕ → ℕ) (n : ℕ)
+    → IsSchedule p b s n → (t : ℕ → ℕ) × IsEarliest p b t n
 
 -- .. which has one list of times
 abbrev pub EarliestIsOne : Type 0
 EarliestIsOne =
-    (p : Pace) (b t u : ℕ → ℕ) (n : ℕ) → IsEarliest p b t n → IsEarliest p b u n → (i : ℕ) → i < n → t i ≡ u i
+    (p : Pace) (b t u : ℕ → ℕ) (n : ℕ) → IsEarliest p b t n
+    → IsEarliest p b u n → (i : ℕ) → i < n → t i ≡ u i
 
 -- .. and begins with the earliest schedule of the units before
 abbrev pub EarliestBegins : Type 0

@@ -59,7 +59,8 @@ impl Fifo {
         ensures is { placed self.old bytes ≡ answered result self.new }
         ensures time { IfOk result (λ t. t ≡ pos (begins self.old bytes)) }
         ensures placed { EachHistory self.old (λ kind rate b. IfOk result (LastBegins kind rate (b ++ bytes ∷ []))) }
-        ensures left { EachHistory self.old (λ kind rate b. OnOk result (Leaves kind rate (b ++ bytes ∷ []) self.new)) }
+        ensures left { EachHistory self.old
+            (λ kind rate b. OnOk result (Leaves kind rate (b ++ bytes ∷ []) self.new)) }
         ensures none { EachHistory self.old (λ kind rate b. OnErr result (HasNone kind rate (b ++ bytes ∷ []))) }
         ensures named { IfErr result (λ e. e ≡ record { unit = self.old.count; bytes = bytes }) }
         ensures stream { OnOk result ((self.new.kind ≡ self.old.kind) × (self.new.rate ≡ self.old.rate)) }

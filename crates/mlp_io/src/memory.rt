@@ -23,16 +23,29 @@ pub struct MemSource {
 impl Model for MemSource {
     ghost Value = { MemLeft };
 
-    ghost view = { λ s. record { bytes_left = drop s.at s.bytes.items; most = s.piece; failing = s.fail_at.items; call = s.calls; failed = s.faults } };
+    ghost view = { λ s. record {
+      bytes_left = drop s.at s.bytes.items;
+      most = s.piece;
+      failing = s.fail_at.items;
+      call = s.calls;
+      failed = s.faults;
+    } };
 
     ghost invariant = { λ s. (s.at ≤ length s.bytes.items) × (0 < s.piece) };
 }
 
 impl MemSource {
-    /// A source of these bytes. A call gives at most `piece` of them, and fails where its number, counted from 0, is in `fail_at`.
+    /// A source of these bytes. A call gives at most `piece` of them, and fails where its number,
+    /// counted from 0, is in `fail_at`.
     pub fn new(bytes: Vec<u8>, piece: usize, fail_at: Vec<u64>) -> MemSource
         requires { 1 ≤ piece }
-        ensures { result ≡ record { bytes_left = bytes.items; most = piece; failing = fail_at.items; call = 0; failed = 0 } }
+        ensures { result ≡ record {
+          bytes_left = bytes.items;
+          most = piece;
+          failing = fail_at.items;
+          call = 0;
+          failed = 0;
+        } }
     {
         MemSource {
             bytes,
@@ -61,7 +74,8 @@ impl Source for MemSource {
         ensures kept { OnErr result (buf.new ≡ buf.old) }
         ensures cause { HasCause (capped self.old.failed) (capped self.new.failed) result }
         ensures fails { IsErr result ↔ Contains self.old.failing self.old.call }
-        ensures piece { IfOk result (λ n. n ≡ min self.old.most (min (length self.old.bytes_left) (length buf.old))) }
+        ensures piece { IfOk result
+            (λ n. n ≡ min self.old.most (min (length self.old.bytes_left) (length buf.old))) }
         ensures gave { IfOk result (λ n. self.new ≡ after_giving n self.old) }
         ensures failed { OnErr result (self.new ≡ after_failed_read self.old) }
     {
@@ -91,17 +105,32 @@ pub struct MemSink {
 impl Model for MemSink {
     ghost Value = { MemTaken };
 
-    ghost view = { λ s. record { bytes_taken = take s.at s.room.items; space = length s.room.items - s.at; most = s.piece; failing = s.fail_at.items; call = s.calls; failed = s.faults } };
+    ghost view = { λ s. record {
+      bytes_taken = take s.at s.room.items;
+      space = length s.room.items - s.at;
+      most = s.piece;
+      failing = s.fail_at.items;
+      call = s.calls;
+      failed = s.faults;
+    } };
 
     ghost invariant = { λ s. (s.at ≤ length s.room.items) × (0 < s.piece) };
 }
 
 impl MemSink {
-    /// A sink with room for as many bytes as `room` is long, which it puts over the old ones. A call takes at most `piece` bytes, and
-    /// fails where its number, counted from 0, is in `fail_at`, or where it has a byte and the room is full.
+    /// A sink with room for as many bytes as `room` is long, which it puts over the old ones. A call takes at most
+    /// `piece` bytes, and fails where its number, counted from 0, is in `fail_at`,
+    /// or where it has a byte and the room is full.
     pub fn new(room: Vec<u8>, piece: usize, fail_at: Vec<u64>) -> MemSink
         requires { 1 ≤ piece }
-        ensures { result ≡ record { bytes_taken = []; space = length room.items; most = piece; failing = fail_at.items; call = 0; failed = 0 } }
+        ensures { result ≡ record {
+          bytes_taken = [];
+          space = length room.items;
+          most = piece;
+          failing = fail_at.items;
+          call = 0;
+          failed = 0;
+        } }
     {
         MemSink {
             room,
@@ -136,7 +165,8 @@ impl Sink for MemSink {
         ensures progress { IfOk result (λ n. 0 < length piece.now → 0 < n) }
         ensures bytes { WriteAppends (Some self.old.bytes_taken) (Some self.new.bytes_taken) result piece.now }
         ensures cause { HasCause (capped self.old.failed) (capped self.new.failed) result }
-        ensures fails { IsErr result ↔ (Contains self.old.failing self.old.call ⊎ ((self.old.space ≡ 0) × (0 < length piece.now))) }
+        ensures fails { IsErr result
+            ↔ (Contains self.old.failing self.old.call ⊎ ((self.old.space ≡ 0) × (0 < length piece.now))) }
         ensures piece { IfOk result (λ n. n ≡ min self.old.most (min self.old.space (length piece.now))) }
         ensures took { IfOk result (λ n. self.new ≡ after_taking (take n piece.now) n self.old) }
         ensures failed { OnErr result (self.new ≡ after_failed_write self.old) }

@@ -48,8 +48,8 @@ impl<R: Read> Source for StdSource<R> {
 
     /// Reads through a buffer of its own, since what stands in a buffer after an error of the reader isn't told.
     ///
-    /// Clauses can't count the calls of the reader. Tests alone show that its end is `Ok(0)` and no fault, and that it isn't asked
-    /// again behind its error.
+    /// Clauses can't count the calls of the reader. Tests alone show that its end is `Ok(0)` and no fault, and that it
+    /// isn't asked again behind its error.
     ///
     /// # Errors
     ///
@@ -59,7 +59,8 @@ impl<R: Read> Source for StdSource<R> {
         ensures bytes { ReadConsumes self.old.bytes_left self.new.bytes_left result buf.new }
         ensures kept { OnErr result (buf.new ≡ buf.old) }
         ensures cause { HasCause (capped self.old.failed) (capped self.new.failed) result }
-        ensures count { MatchResult result (λ _. self.new.failed ≡ self.old.failed) (λ _. self.new.failed ≡ next_count self.old.failed) }
+        ensures count { MatchResult result (λ _. self.new.failed ≡ self.old.failed)
+            (λ _. self.new.failed ≡ next_count self.old.failed) }
     {
         let count = buf.len().min(PIECE);
         let piece = &mut self.piece[..];
@@ -76,7 +77,8 @@ impl<R: Read> Source for StdSource<R> {
     }
 }
 
-/// A writer of std, which tells what the writer tells, with a count of its errors and of its refusals of all of a piece.
+/// A writer of std, which tells what the writer tells,
+/// with a count of its errors and of its refusals of all of a piece.
 #[derive(Drop)]
 pub struct StdSink<W: Write> {
     inner: W,
@@ -107,8 +109,8 @@ impl<W: Write> Sink for StdSink<W> {
 
     /// Writes what the writer takes at once.
     ///
-    /// Clauses can't count the calls of the writer. Tests alone show that an empty piece is no fault, and that the writer isn't
-    /// asked again behind its error.
+    /// Clauses can't count the calls of the writer. Tests alone show that an empty piece is no fault, and that the
+    /// writer isn't asked again behind its error.
     ///
     /// # Errors
     ///
@@ -118,7 +120,8 @@ impl<W: Write> Sink for StdSink<W> {
         ensures progress { IfOk result (λ n. 0 < length piece.now → 0 < n) }
         ensures bytes { WriteAppends self.old.bytes_taken self.new.bytes_taken result piece.now }
         ensures cause { HasCause (capped self.old.failed) (capped self.new.failed) result }
-        ensures count { MatchResult result (λ _. self.new.failed ≡ self.old.failed) (λ _. self.new.failed ≡ next_count self.old.failed) }
+        ensures count { MatchResult result (λ _. self.new.failed ≡ self.old.failed)
+            (λ _. self.new.failed ≡ next_count self.old.failed) }
     {
         match self.inner.write(piece) {
             Ok(0) if !piece.is_empty() => {

@@ -1,4 +1,5 @@
--- Prediction filters that are computed from a block's own samples, by the recursion of Levinson and Durbin in whole numbers.
+-- Prediction filters that are computed from a block's own samples,
+-- by the recursion of Levinson and Durbin in whole numbers.
 use Rattle.std.specs.Prelude.{ℕ, zero, suc, ◌-◌, ◌^◌, nat_lt, List, [], ◌∷◌, ◌++◌, length, map, drop, reverse, slice_index_or, ℤ, pos, negsuc, neg_ℤ, ◌+ℤ◌, ◌-ℤ◌, ◌*ℤ◌, ◌≤ℤ◌, unsigned_abs, Bool, true, false, ◌&&◌, Option, Some, None, if◌then◌else◌}
 use Rattle.std.specs.List.{list_all}
 use Rattle.std.specs.Int.{int_min, int_max}
@@ -19,7 +20,8 @@ lag ys j = dot (drop j ys) ys
 
 -- lag 0 to 8
 abbrev pub lags : List ℤ → List ℤ
-lags ys = lag ys 0 ∷ lag ys 1 ∷ lag ys 2 ∷ lag ys 3 ∷ lag ys 4 ∷ lag ys 5 ∷ lag ys 6 ∷ lag ys 7 ∷ lag ys 8 ∷ []
+lags ys = lag ys 0 ∷ lag ys 1 ∷ lag ys 2 ∷ lag ys 3 ∷ lag ys 4
+    ∷ lag ys 5 ∷ lag ys 6 ∷ lag ys 7 ∷ lag ys 8 ∷ []
 
 abbrev pub at : List ℤ → ℕ → ℤ
 at rs j = slice_index_or rs j (pos 0)
@@ -124,7 +126,13 @@ fewest_bits (suc w) cs = if list_all (has_bits w) cs then fewest_bits w cs else 
 
 -- a filter of these coefficients with so many fraction bits
 abbrev pub filter_at : ℕ → List ℤ → Filter 8
-filter_at s cs = record { shift = s; coeff_bits = fewest_bits 16 cs; coeff_shift = 0; coeffs = record { items = cs }; state = None }
+filter_at s cs = record {
+  shift = s;
+  coeff_bits = fewest_bits 16 cs;
+  coeff_shift = 0;
+  coeffs = record { items = cs };
+  state = None;
+}
 
 abbrev pub filter_of : List ℤ → Filter 8
 filter_of ps = filter_at (greatest_shift 15 ps) (map (rounded (greatest_shift 15 ps)) ps)

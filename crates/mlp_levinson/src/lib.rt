@@ -1,4 +1,5 @@
-//! Prediction filters that are computed from a block's own samples, by the recursion of Levinson and Durbin in whole numbers.
+//! Prediction filters that are computed from a block's own samples,
+//! by the recursion of Levinson and Durbin in whole numbers.
 #![tactic(auto)]
 
 mod computed;

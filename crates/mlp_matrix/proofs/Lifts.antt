@@ -51,7 +51,8 @@ undone_applied ws xs d q bit y h k l fits one e =
     ap (λ z. wrap (clear q z +ℤ bit_of bit)) f ∙ made_again q y (int_shr s 14) (bit_of bit) l fits e
 
 -- .. and so the whole old frame
-pub weighted-lifted : (ws xs : List ℤ) (d q : ℕ) (bit : Bool) (y : ℤ) → d < length ws → length ws ≤ length xs → q < 16 → FitsSigned w32 y → get_or ws d (pos 0) ≡ pos 16384 → y ≡ get_or xs d (pos 0) → y ≡ clear q y +ℤ bit_of bit →
+pub weighted-lifted : (ws xs : List ℤ) (d q : ℕ) (bit : Bool) (y : ℤ) → d < length ws → length ws ≤ length xs → q < 16
+    → FitsSigned w32 y → get_or ws d (pos 0) ≡ pos 16384 → y ≡ get_or xs d (pos 0) → y ≡ clear q y +ℤ bit_of bit →
     weighted ws d q bit (set xs d (lifted ws d q xs y)) ≡ xs
 weighted-lifted ws xs d q bit y h k l fits one there e =
     ap (set (set xs d (lifted ws d q xs y)) d) (undone_applied ws xs d q bit y h k l fits one e ∙ there)
@@ -70,7 +71,8 @@ weighted-lifted ws xs d q bit y h k l fits one there e =
 
 -- prepared weights lift as the row does
 pub lifted_prepared : (row : MatrixRow) (ws : List ℤ) (cs : List (Option ℤ)) (n dest step : ℕ) (frame : List ℤ) →
-    ws ≡ weights_of row.frac cs ++ replicate n (pos 0) → cs ≡ row.coeffs.items → dest ≡ row.dest → lifted ws dest step frame (get_or frame dest (pos 0)) ≡ lifted (weights row) row.dest step frame (get_or frame row.dest (pos 0))
+    ws ≡ weights_of row.frac cs ++ replicate n (pos 0) → cs ≡ row.coeffs.items → dest ≡ row.dest
+    → lifted ws dest step frame (get_or frame dest (pos 0)) ≡ lifted (weights row) row.dest step frame (get_or frame row.dest (pos 0))
 lifted_prepared row ws cs n dest step frame a b c =
     ap (λ zs. lifted zs dest step frame (get_or frame dest (pos 0))) (a ∙ ap (λ zs. weights_of row.frac zs ++ replicate n (pos 0)) b)
     ∙ ap (λ z. wrap (clear step (get_or frame dest (pos 0)) -ℤ clear step (int_shr z 14))) (dot-zeros (weights row) (set frame dest (pos 0)) n)

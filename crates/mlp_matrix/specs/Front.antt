@@ -5,7 +5,8 @@ use Rattle.mlp_matrix.specs.Matrix.{weights_of, applied, applied_each}
 
 -- the coefficients behind the first n weigh nothing
 abbrev pub AreUsed : ℕ → List (Option ℤ) → Type 0
-AreUsed n coeffs = (frac : ℕ) → weights_of frac coeffs ≡ weights_of frac (take n coeffs) ++ replicate (length coeffs - n) (pos 0)
+AreUsed n coeffs = (frac : ℕ) → weights_of frac coeffs
+    ≡ weights_of frac (take n coeffs) ++ replicate (length coeffs - n) (pos 0)
 
 -- no row has a coefficient for a place past the first m
 abbrev pub AreWithin : ℕ → List MatrixRow → Type 0
@@ -14,7 +15,8 @@ AreWithin m rows = All (λ row. length row.coeffs.items ≤ m) rows
 -- the first m places of what the rows make of a frame are what they make of its first m places
 abbrev pub MakeFront : ℕ → List MatrixRow → Type 0
 MakeFront m rows =
-    (steps : List ℕ) (bypass : ℕ) (frame : List ℤ) → take m (applied rows steps bypass frame) ≡ applied rows steps bypass (take m frame)
+    (steps : List ℕ) (bypass : ℕ) (frame : List ℤ)
+    → take m (applied rows steps bypass frame) ≡ applied rows steps bypass (take m frame)
 
 -- .. of each frame
 abbrev pub MakeFronts : ℕ → List MatrixRow → Type 0

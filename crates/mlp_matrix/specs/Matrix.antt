@@ -44,7 +44,8 @@ has_bit bits i = bits / 2 ^ i % 2 == 1
 
 abbrev pub applied_from : ℕ → List MatrixRow → List ℕ → ℕ → List ℤ → List ℤ
 applied_from i [] steps bypass frame = frame
-applied_from i (row ∷ rows) steps bypass frame = applied_from (i + 1) rows steps bypass (row_applied steps row (has_bit bypass i) frame)
+applied_from i (row ∷ rows) steps bypass frame =
+    applied_from (i + 1) rows steps bypass (row_applied steps row (has_bit bypass i) frame)
 
 abbrev pub applied : List MatrixRow → List ℕ → ℕ → List ℤ → List ℤ
 applied rows steps bypass frame = applied_from 0 rows steps bypass frame
@@ -53,7 +54,8 @@ applied rows steps bypass frame = applied_from 0 rows steps bypass frame
 abbrev pub applied_each_from : ℕ → List MatrixRow → List ℕ → List ℕ → List (List ℤ) → List (List ℤ)
 applied_each_from i rows steps bypass [] = []
 applied_each_from i rows steps [] (frame ∷ frames) = frame ∷ frames
-applied_each_from i rows steps (bits ∷ bypass) (frame ∷ frames) = applied_from i rows steps bits frame ∷ applied_each_from i rows steps bypass frames
+applied_each_from i rows steps (bits ∷ bypass) (frame ∷ frames) =
+    applied_from i rows steps bits frame ∷ applied_each_from i rows steps bypass frames
 
 abbrev pub applied_each : List MatrixRow → List ℕ → List ℕ → List (List ℤ) → List (List ℤ)
 applied_each rows steps bypass frames = applied_each_from 0 rows steps bypass frames
@@ -62,7 +64,8 @@ applied_each rows steps bypass frames = applied_each_from 0 rows steps bypass fr
 abbrev pub weighted_each : List ℤ → ℕ → ℕ → ℕ → List ℕ → List (List ℤ) → List (List ℤ)
 weighted_each ws dest step i bypass [] = []
 weighted_each ws dest step i [] (frame ∷ frames) = frame ∷ frames
-weighted_each ws dest step i (bits ∷ bypass) (frame ∷ frames) = weighted ws dest step (has_bit bits i) frame ∷ weighted_each ws dest step i bypass frames
+weighted_each ws dest step i (bits ∷ bypass) (frame ∷ frames) =
+    weighted ws dest step (has_bit bits i) frame ∷ weighted_each ws dest step i bypass frames
 
 -- ---- a row undone
 

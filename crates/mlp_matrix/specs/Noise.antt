@@ -10,7 +10,8 @@ noise_of seed = (cast_signed w8 (seed / 2 ^ 15 % 256), cast_signed w8 (seed / 2 
 abbrev pub noise_values : ℕ → ℕ → List ℤ
 noise_values shift seed = ((noise_of seed).0 *ℤ pos (2 ^ shift)) ∷ ((noise_of seed).1 *ℤ pos (2 ^ shift)) ∷ []
 
--- the seed of the next frame: with h the seed without its low 7 bits, these bits times 2^16, h and 2^5 h, added without carry
+-- the seed of the next frame: with h the seed without its low 7 bits, these bits times 2^16, h and 2^5 h,
+-- added without carry
 abbrev pub next_seed : ℕ → ℕ
 next_seed seed = bit_xor (bit_xor (seed % 2 ^ 7 * 2 ^ 16) (seed / 2 ^ 7)) (seed / 2 ^ 7 * 2 ^ 5) % 2 ^ 23
 
@@ -26,10 +27,12 @@ noisy shift channels seed frame = take channels frame ++ noise_values shift seed
 -- frames in order, the first with this seed
 abbrev pub noisy_each : ℕ → ℕ → ℕ → List (List ℤ) → List (List ℤ)
 noisy_each shift channels seed [] = []
-noisy_each shift channels seed (frame ∷ frames) = noisy shift channels seed frame ∷ noisy_each shift channels (next_seed seed) frames
+noisy_each shift channels seed (frame ∷ frames) =
+    noisy shift channels seed frame ∷ noisy_each shift channels (next_seed seed) frames
 
 -- each frame has the noise of the seed as many frames on as stand before it
 abbrev pub AreNoisy : ℕ → ℕ → ℕ → List (List ℤ) → Type 0
 AreNoisy shift channels seed frames =
     (i : ℕ) → i < length frames →
-    slice_index_or (noisy_each shift channels seed frames) i [] ≡ noisy shift channels (seed_at seed i) (slice_index_or frames i [])
+    slice_index_or (noisy_each shift channels seed frames) i []
+    ≡ noisy shift channels (seed_at seed i) (slice_index_or frames i [])

@@ -5,7 +5,8 @@ ghost use Rattle.mlp_syntax.specs.declared.params.MatrixRow.{MatrixRow};
 ghost use Rattle.mlp_matrix.specs.Front.{AreWithin, MakeFront, MakeFronts};
 ghost use Rattle.mlp_matrix.specs.Noise.{noise_values, next_seed, seed_at, AreNoisy};
 
-/// Rows without coefficients past the first `m` places make of these, and of these alone, what they make of a frame there.
+/// Rows without coefficients past the first `m` places make of these, and of these alone,
+/// what they make of a frame there.
 pub fn law_front()
     ensures frame { (m : ℕ) (rows : List MatrixRow) → AreWithin m rows → MakeFront m rows }
     ensures frames { (m : ℕ) (rows : List MatrixRow) → AreWithin m rows → MakeFronts m rows }

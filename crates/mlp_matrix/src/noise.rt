@@ -57,7 +57,8 @@ impl Noise {
     ghost use Rattle.std.specs.Prelude.{◌≡◌, ◌+◌, ◌<◌, ◌≤◌, ◌^◌, length};
     ghost use Rattle.mlp_matrix.specs.Noise.{noise_of, next_seed, seed_at, noisy_each};
 
-    /// The two noise values of a frame, from -128 to 127, before they are shifted. The seed becomes that of the next frame.
+    /// The two noise values of a frame, from -128 to 127, before they are shifted.
+    /// The seed becomes that of the next frame.
     pub fn next(&mut self) -> (i32, i32)
         requires { self.old.seed < 2 ^ 23 }
         ensures first { result.0 ≡ (noise_of self.old.seed).0 }
@@ -85,7 +86,8 @@ impl Noise {
         }
     }
 
-    /// Puts the noise of each frame, times 2^shift, behind its channels. The seed becomes that of the frame behind them.
+    /// Puts the noise of each frame, times 2^shift, behind its channels.
+    /// The seed becomes that of the frame behind them.
     pub fn put_each(&mut self, shift: u8, channels: u8, frames: &mut [[i32; 10]])
         requires seed { self.old.seed < 2 ^ 23 }
         requires shift { shift < 16 }

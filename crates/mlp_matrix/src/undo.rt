@@ -16,7 +16,8 @@ fn is_odd(value: i32) -> bool
     value.cast_unsigned() & 1 == 1
 }
 
-/// Whether the value has a bit that the row adds after the step: its lowest one, where the row has bypass and the step is 1.
+/// Whether the value has a bit that the row adds after the step: its lowest one,
+/// where the row has bypass and the step is 1.
 fn bypassed(bypass: bool, step: u8, value: i32) -> bool
     ensures { result ≡ bypassed bypass step value }
 {
@@ -39,8 +40,8 @@ fn lifted(sum: i64, step: u8, value: i32) -> i32
     wrap(clear(step, i64::from(value)) - clear(step, floor_by(14, sum)))
 }
 
-/// Puts at the row's destination, whose scaled weight there is 2^14, the value from which the row makes the old one, and
-/// answers the bit that the row adds there. The old value has no low `step` bits, but for a bypassed bit.
+/// Puts at the row's destination, whose scaled weight there is 2^14, the value from which the row makes the old one,
+/// and answers the bit that the row adds there. The old value has no low `step` bits, but for a bypassed bit.
 pub fn undo_lift(row: &MatrixRow, step: u8, frame: &mut [i32; 10]) -> bool
     requires row { IsRow 8 row.now }
     requires lift { IsLift row.now step frame.old }

@@ -24,7 +24,8 @@ module _ (shifts assign : List ℕ) (frame : List ℤ) (i : ℕ) where
       ap (λ (ss : List ℕ). samples_of ss (drop i frame)) (drop_more shifts i 0 a)
       ∙ ap (λ (xs : List ℤ). samples_of (get_or shifts i 0 ∷ drop (i + 1) shifts) xs) (drop_more frame i (pos 0) b)
 
-  pub filled_more : (row : List ℤ) (check : ℕ) (v : ℤ) (bits : ℕ) → i < length shifts → i < length assign → i < length frame → v ≡ here → bits ≡ cast_unsigned w32 v % 2 ^ 24 * 2 ^ i → IsFilled shifts assign frame (i + 1) row check
+  pub filled_more : (row : List ℤ) (check : ℕ) (v : ℤ) (bits : ℕ) → i < length shifts → i < length assign → i < length frame
+      → v ≡ here → bits ≡ cast_unsigned w32 v % 2 ^ 24 * 2 ^ i → IsFilled shifts assign frame (i + 1) row check
       → IsFilled shifts assign frame i (set row (get_or assign i 0) v) (bit_xor check bits)
   filled_more row check v bits a b c is same h = record {
     in_place =

@@ -10,8 +10,10 @@ with_noise r seed frames = if r.kind == 0 then noisy_each r.noise_shift (r.max_m
 
 -- no coefficient stands behind the first m places
 abbrev pub HasNoneBehind : ℕ → List (Option ℤ) → Type 0
-HasNoneBehind m coeffs = (k : ℕ) → m ≤ k → k < length coeffs → is_some (slice_index_or coeffs k None) ≡ false
+HasNoneBehind m coeffs =
+    (k : ℕ) → m ≤ k → k < length coeffs → is_some (slice_index_or coeffs k None) ≡ false
 
 -- no row has a coefficient for what stands behind the first m places
 abbrev pub HearNone : ℕ → List MatrixRow → Type 0
-HearNone m rows = (i : ℕ) (d : MatrixRow) → i < length rows → HasNoneBehind m (slice_index_or rows i d).coeffs.items
+HearNone m rows = (i : ℕ) (d : MatrixRow) → i < length rows
+    → HasNoneBehind m (slice_index_or rows i d).coeffs.items

@@ -47,7 +47,8 @@ check_from c (v ∷ samples) = bit_xor (cast_unsigned w32 v % 2 ^ 24 * 2 ^ c) (c
 abbrev pub heard : State → ℕ → List ℕ → List (List ℤ) → List (List ℤ)
 heard s seed [] frames = []
 heard s seed (b ∷ bypass) [] = []
-heard s seed (b ∷ bypass) (f ∷ frames) = samples_of s.shifts.items (matrixed s seed b f) ∷ heard s (next_seed seed) bypass frames
+heard s seed (b ∷ bypass) (f ∷ frames) =
+    samples_of s.shifts.items (matrixed s seed b f) ∷ heard s (next_seed seed) bypass frames
 
 -- .. at their places
 abbrev pub placed_each : State → List (List ℤ) → List (List ℤ)

@@ -25,8 +25,8 @@ fn make_room(out: &mut ArrayVec<[i32; 8], 160>, count: usize)
 
 /// The samples of the first `kept` frames of a unit, in eight places each, by what is in force in the substream.
 /// `frames` are the coded channels, each from matrix channel 0 to the greatest; the places behind these may hold
-/// anything. `codes` has their bypassed bits. The noise moves on in each frame, and the samples are added to the running
-/// check.
+/// anything. `codes` has their bypassed bits. The noise moves on in each frame, and the samples are added to the
+/// running check.
 pub fn put_out(
     state: &State,
     noise: &mut Noise,

@@ -26,7 +26,8 @@ at_false b x y h = ap (λ t. cond t x y) h
 pub at_true : (b : Bool) (x y : Answer) → b ≡ true → cond b x y ≡ x
 at_true b x y h = ap (λ t. cond t x y) h
 
-pub chunk_short : (go : Option Format → List ℕ → Answer) (seen : Option Format) (head xs : List ℕ) → starts_with nat_eq head (codes "data") ≡ false → length xs < padded (number_at 4 4 head) → chunk go seen head xs ≡ unfinished Chunk
+pub chunk_short : (go : Option Format → List ℕ → Answer) (seen : Option Format) (head xs : List ℕ)
+    → starts_with nat_eq head (codes "data") ≡ false → length xs < padded (number_at 4 4 head) → chunk go seen head xs ≡ unfinished Chunk
 unfolding chunk
 chunk_short go seen head xs h l =
     at_false (starts_with nat_eq head (codes "data")) (at_data seen (number_at 4 4 head) xs) _ h
@@ -65,7 +66,8 @@ content_ends a b taken count seen head TooLong h l (xs, x, k, small, all) =
 -- a chunk that is passed over
 pub chunk_other : (n : ℕ) (seen : Option Format) (head xs rest : List ℕ) → starts_with nat_eq head (codes "data") ≡ false → length xs ≡ padded (number_at 4 4 head)
     → (starts_with nat_eq head (codes "fmt ") && is_none seen) ≡ false → chunk (chunks n) seen head (xs ++ rest) ≡ chunks n seen rest
-chunk_other n seen head xs rest h l f = chunk_open (chunks n) seen head xs rest h l ∙ ap (λ t. cond t (after_format (chunks n) (judged (number_at 4 4 head) (take (min (padded (number_at 4 4 head)) 40) (xs ++ rest))) rest) (chunks n seen rest)) f
+chunk_other n seen head xs rest h l f = chunk_open (chunks n) seen head xs rest h l
+    ∙ ap (λ t. cond t (after_format (chunks n) (judged (number_at 4 4 head) (take (min (padded (number_at 4 4 head)) 40) (xs ++ rest))) rest) (chunks n seen rest)) f
 
 -- the first fmt chunk
 chunk_fmt : (n : ℕ) (head first xs rest : List ℕ) → starts_with nat_eq head (codes "data") ≡ false → length first ≡ min (padded (number_at 4 4 head)) 40

@@ -52,7 +52,8 @@ right_none false (Some f) h = cc
 
 module _ (seen : Option Format) (head xs : List ℕ) (other : starts_with nat_eq head (codes "data") ≡ false) (long : nat_lt (length xs) (padded (number_at 4 4 head)) ≡ false) where
   open_chunk : (go : Next) → chunk go seen head xs
-      ≡ cond (starts_with nat_eq head (codes "fmt ") && is_none seen) (after_format go (judged (number_at 4 4 head) (take (min (padded (number_at 4 4 head)) 40) xs)) (drop (padded (number_at 4 4 head)) xs)) (go seen (drop (padded (number_at 4 4 head)) xs))
+      ≡ cond (starts_with nat_eq head (codes "fmt ") && is_none seen)
+      (after_format go (judged (number_at 4 4 head) (take (min (padded (number_at 4 4 head)) 40) xs)) (drop (padded (number_at 4 4 head)) xs)) (go seen (drop (padded (number_at 4 4 head)) xs))
   unfolding chunk
   open_chunk go = at_false (starts_with nat_eq head (codes "data")) (at_data seen (number_at 4 4 head) xs) _ other ∙ at_false (nat_lt (length xs) (padded (number_at 4 4 head))) (unfinished Chunk) _ long
 
@@ -87,7 +88,8 @@ view seen head xs = elim (either (starts_with nat_eq head (codes "data"))) as (�
 -- a whole chunk before more bytes
 module _ (seen : Option Format) (head xs more : List ℕ) (other : starts_with nat_eq head (codes "data") ≡ false) (long : padded (number_at 4 4 head) ≤ length xs) where
   open_more : (go : Next) → chunk go seen head (xs ++ more)
-      ≡ cond (starts_with nat_eq head (codes "fmt ") && is_none seen) (after_format go (judged (number_at 4 4 head) (take (min (padded (number_at 4 4 head)) 40) xs)) (drop (padded (number_at 4 4 head)) xs ++ more)) (go seen (drop (padded (number_at 4 4 head)) xs ++ more))
+      ≡ cond (starts_with nat_eq head (codes "fmt ") && is_none seen)
+      (after_format go (judged (number_at 4 4 head) (take (min (padded (number_at 4 4 head)) 40) xs)) (drop (padded (number_at 4 4 head)) xs ++ more)) (go seen (drop (padded (number_at 4 4 head)) xs ++ more))
   open_more go =
       let p : ℕ = padded (number_at 4 4 head) in
       let fmt = starts_with nat_eq head (codes "fmt ") && is_none seen in

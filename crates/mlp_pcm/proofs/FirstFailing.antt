@@ -43,7 +43,8 @@ module _ (test : List ℤ → Bool) where
   later : (row : List ℤ) (rows : List (List ℤ)) (i : ℕ) → test row ≡ true → IsFirstFailing test rows i → IsFirstFailing test (row ∷ rows) (suc i)
   later row rows i e h = record { within = omega (arith, h.within); before = all_more row (take i rows) e h.before; here = h.here }
 
-  from_rest : (row : List ℤ) (rows : List (List ℤ)) (o : Option ℕ) (i : ℕ) → test row ≡ true → ((j : ℕ) → o ≡ Some j → IsFirstFailing test rows j) → option_map suc o ≡ Some i → IsFirstFailing test (row ∷ rows) i
+  from_rest : (row : List ℤ) (rows : List (List ℤ)) (o : Option ℕ) (i : ℕ) → test row ≡ true
+      → ((j : ℕ) → o ≡ Some j → IsFirstFailing test rows j) → option_map suc o ≡ Some i → IsFirstFailing test (row ∷ rows) i
   from_rest row rows None i e rest h = cc
   from_rest row rows (Some j) i e rest h =
       let same : suc j ≡ i = cc in

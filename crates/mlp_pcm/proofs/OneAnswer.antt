@@ -35,7 +35,8 @@ header_known bytes h = elim (view_header bytes) as (λ _. ⊥) [
 ]
 
 -- more chunks that are looked at change nothing
-chunk_more : (g h : Next) (seen : Option Format) (head xs : List ℕ) → ((t : Option Format) (ys : List ℕ) → (h t ys ≡ unknown → ⊥) → g t ys ≡ h t ys) → (chunk h seen head xs ≡ unknown → ⊥) → chunk g seen head xs ≡ chunk h seen head xs
+chunk_more : (g h : Next) (seen : Option Format) (head xs : List ℕ) → ((t : Option Format) (ys : List ℕ) → (h t ys ≡ unknown → ⊥) → g t ys ≡ h t ys)
+    → (chunk h seen head xs ≡ unknown → ⊥) → chunk g seen head xs ≡ chunk h seen head xs
 chunk_more g h seen head xs same known = elim (view seen head xs) as (λ _. chunk g seen head xs ≡ chunk h seen head xs) [
   | is_data d e ↦ e g ∙ sym (e h)
   | is_short l e ↦ e g ∙ sym (e h)

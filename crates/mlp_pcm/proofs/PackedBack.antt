@@ -115,7 +115,8 @@ module _ {A : Type 0} where
       ∙ ap (λ ys. x ∷ ys) (get_pieces put value size xs rest (All-tail (λ x. length (put x) ≡ size) x xs l) (All-tail (λ x. (bs : List ℕ) → value (put x ++ bs) ≡ x) x xs same))
 
   -- what holds of each value that is read
-  all_pieces : (P : A → Type 0) (value : List ℕ → A) (size n : ℕ) (bytes : List ℕ) → ((bs : List ℕ) → size ≤ length bs → All IsByte bs → P (value bs)) → n * size ≤ length bytes → All IsByte bytes → All P (pieces value size n bytes)
+  all_pieces : (P : A → Type 0) (value : List ℕ → A) (size n : ℕ) (bytes : List ℕ) → ((bs : List ℕ) → size ≤ length bs → All IsByte bs → P (value bs))
+      → n * size ≤ length bytes → All IsByte bytes → All P (pieces value size n bytes)
   unfolding pieces
   all_pieces P value size zero bytes holds l h = All-nil P
   all_pieces P value size (suc n) bytes holds l h =
@@ -212,7 +213,8 @@ module _ (width depth channels : ℕ) (form : IsForm width depth) (one : 1 ≤ c
       let sizes : All (λ s. length (sample_bytes (8 * width) s) ≡ width) (take channels row) = λ k d h. length_sample width depth form _ in
       let clear = All-take (λ s. is_clear depth s ≡ true) channels row (true_all (is_clear depth) row r.clear) in
       let same : All (λ s. (bs : List ℕ) → sample_in width (sample_bytes (8 * width) s ++ bs) ≡ s) (take channels row)
-      = both Is24 (λ s. is_clear depth s ≡ true) (λ s. (bs : List ℕ) → sample_in width (sample_bytes (8 * width) s ++ bs) ≡ s) (take channels row) (λ s a b bs. forth width depth form s bs a b) (All-take Is24 channels row r.samples) clear in
+      = both Is24 (λ s. is_clear depth s ≡ true) (λ s. (bs : List ℕ) → sample_in width (sample_bytes (8 * width) s ++ bs) ≡ s) (take channels row)
+      (λ s a b bs. forth width depth form s bs a b) (All-take Is24 channels row r.samples) clear in
       ap (λ n. pieces (sample_in width) width n (row_bytes (8 * width) channels row ++ rest) ++ replicate (8 - channels) (pos 0)) (sym few)
       ∙ ap (λ xs. xs ++ replicate (8 - channels) (pos 0)) (get_pieces (sample_bytes (8 * width)) (sample_in width) width (take channels row) rest sizes same)
       ∙ ap (λ xs. take channels row ++ xs) (sym r.rest) ∙ take-append-drop channels row

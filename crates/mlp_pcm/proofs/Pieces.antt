@@ -44,7 +44,8 @@ zero_more i row x h e =
     drop-set-lt (i + 1) row i x (omega arith) ∙ sym (drop-drop 1 i row) ∙ ap (λ (xs : List ℤ). drop 1 xs) e
     ∙ drop-replicate 1 (8 - i) (pos 0) ∙ ap (λ n. replicate n (pos 0)) (let k : 8 - i - 1 ≡ 8 - (i + 1) = omega arith in k)
 
-pub row_whole : (value : List ℕ → ℤ) (size n i : ℕ) (row : List ℤ) (rest : List ℕ) (all : List ℤ) → i ≡ n → take i row ++ pieces value size (n - i) rest ≡ all → drop i row ≡ replicate (8 - i) (pos 0) → row ≡ all ++ replicate (8 - n) (pos 0)
+pub row_whole : (value : List ℕ → ℤ) (size n i : ℕ) (row : List ℤ) (rest : List ℕ) (all : List ℤ) → i ≡ n
+    → take i row ++ pieces value size (n - i) rest ≡ all → drop i row ≡ replicate (8 - i) (pos 0) → row ≡ all ++ replicate (8 - n) (pos 0)
 row_whole value size n i row rest all e done zeros =
     sym (take-append-drop i row)
     ∙ ap (λ xs. xs ++ drop i row) (sym (append-nil (take i row)) ∙ ap (λ xs. take i row ++ xs) (sym (pieces_none value size (n - i) rest (omega arith))) ∙ done)
@@ -52,7 +53,8 @@ row_whole value size n i row rest all e done zeros =
 
 -- a value is put behind the others
 module _ {A : Type 0} where
-  next_piece : (value : List ℕ → A) (size n i : ℕ) (items : List A) (rest : List ℕ) (all : List A) → i < n → items ++ pieces value size (n - i) rest ≡ all → items ++ value rest ∷ pieces value size (n - i - 1) (drop size rest) ≡ all
+  next_piece : (value : List ℕ → A) (size n i : ℕ) (items : List A) (rest : List ℕ) (all : List A) → i < n
+      → items ++ pieces value size (n - i) rest ≡ all → items ++ value rest ∷ pieces value size (n - i - 1) (drop size rest) ≡ all
   next_piece value size n i items rest all h done = ap (λ xs. items ++ xs) (sym (pieces_more value size (n - i) rest (omega arith))) ∙ done
 
   pub done_more : (value : List ℕ → A) (size n i : ℕ) (items : List A) (rest after : List ℕ) (all : List A) → i < n → after ≡ drop size rest → items ++ pieces value size (n - i) rest ≡ all
@@ -68,7 +70,8 @@ module _ {A : Type 0} where
   all_more test (y ∷ items) x h e = grind (arith, common_steps, all_more test items x)
 
 -- the test fails at a row, and at none before
-pub first_failing : (test : List ℤ → Bool) (value : List ℕ → List ℤ) (size n i : ℕ) (items : List (List ℤ)) (rest : List ℕ) (all : List (List ℤ)) → i < n → length items ≡ i → items ++ pieces value size (n - i) rest ≡ all
+pub first_failing : (test : List ℤ → Bool) (value : List ℕ → List ℤ) (size n i : ℕ) (items : List (List ℤ)) (rest : List ℕ) (all : List (List ℤ))
+    → i < n → length items ≡ i → items ++ pieces value size (n - i) rest ≡ all
     → IsTrue (list_all test items) → test (value rest) ≡ false → IsFirstFailing test all i × (items ≡ take i all)
 first_failing test value size n i items rest all h l done clear fails =
     let e = next_piece value size n i items rest all h done in

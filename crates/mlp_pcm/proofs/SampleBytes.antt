@@ -12,7 +12,8 @@ low_and_upper : (x y : ℕ) → x < 256 → y < 2 ^ 16 → cast_signed w16 y *�
 low_and_upper x y h k = grind (arith, ints, nat_tests)
 
 -- the low byte, and the others as a signed number
-pub by_low_byte : (bytes : List ℕ) → slice_index bytes 0 < 256 → little_number 2 (drop 1 bytes) < 2 ^ 16 → cast_signed w16 (little_number 2 (drop 1 bytes)) *ℤ pos 256 +ℤ pos (slice_index bytes 0) ≡ twos_complement 3 (little_number 3 bytes)
+pub by_low_byte : (bytes : List ℕ) → slice_index bytes 0 < 256 → little_number 2 (drop 1 bytes) < 2 ^ 16
+    → cast_signed w16 (little_number 2 (drop 1 bytes)) *ℤ pos 256 +ℤ pos (slice_index bytes 0) ≡ twos_complement 3 (little_number 3 bytes)
 by_low_byte bytes h k = low_and_upper (slice_index bytes 0) (little_number 2 (drop 1 bytes)) h k ∙ ap (λ n. twos_complement 3 (slice_index bytes 0 + 256 * n)) (omega (arith, get_or-drop 1 bytes 0 0, get_or-drop 1 bytes 1 0))
 
 -- a number of 24 bits is that of its two's complement

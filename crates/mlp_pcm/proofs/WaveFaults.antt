@@ -39,7 +39,13 @@ wrong_behind_riff (suc n) bytes field h = elim (view_all None bytes) as (λ _. I
     | is_data d q ↦
         let b : refused FmtMissing ≡ refused field = sym (q (chunks n)) ∙ sym (e n) ∙ h in
         let i : field ≡ FmtMissing = cc in
-        record { chunks = []; behind = bytes; are = refl; passed = All-nil IsExtra; stops = inl (record { head = take 8 bytes; rest = drop 8 bytes; are = sym (take-append-drop 8 bytes); eight = length-take-le 8 bytes l; name = d; is = i }) }
+        record {
+          chunks = [];
+          behind = bytes;
+          are = refl;
+          passed = All-nil IsExtra;
+          stops = inl (record { head = take 8 bytes; rest = drop 8 bytes; are = sym (take-append-drop 8 bytes); eight = length-take-le 8 bytes l; name = d; is = i });
+        }
     | is_short k q ↦ cc (e n, q (chunks n))
     | is_wrong o k other f j q ↦
         let p : ℕ = padded (number_at 4 4 (take 8 bytes)) in
@@ -77,7 +83,8 @@ pub wrong_from_says : (bytes : List ℕ) (field : WaveField) → Says bytes (ref
 wrong_from_says bytes field (n, h) = elim (view_header bytes) as (λ _. IsWrongRiff bytes field ⊎ IsWrongInside bytes field) [
   | no_riff l e ↦ cc (e n)
   | wrong_riff l r e ↦ let b : refused Riff ≡ refused field = sym (e n) ∙ h in let i : field ≡ Riff = cc in inl (record { long = l; name = r; is = i })
-  | right_riff l r e ↦ inr (record { riff = take 12 bytes; behind = drop 12 bytes; are = sym (take-append-drop 12 bytes); twelve = length-take-le 12 bytes l; name = r; chunks = wrong_behind_riff n (drop 12 bytes) field (sym (e n) ∙ h) })
+  | right_riff l r e ↦ inr
+      (record { riff = take 12 bytes; behind = drop 12 bytes; are = sym (take-append-drop 12 bytes); twelve = length-take-le 12 bytes l; name = r; chunks = wrong_behind_riff n (drop 12 bytes) field (sym (e n) ∙ h) })
 ]
 
 -- and back

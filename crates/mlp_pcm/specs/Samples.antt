@@ -7,7 +7,8 @@ use Rattle.byteorder.specs.Endian.{little_number, little_bytes, twos_complement,
 
 -- The sample of 24 bits in the first bytes. One of two bytes counts 256 times.
 unfoldable pub sample_in : ℕ → List ℕ → ℤ
-sample_in width bytes = if width == 2 then twos_complement 2 (little_number 2 bytes) *ℤ pos 256 else twos_complement 3 (little_number 3 bytes)
+sample_in width bytes = if width == 2 then twos_complement 2 (little_number 2 bytes) *ℤ pos 256
+    else twos_complement 3 (little_number 3 bytes)
 
 -- n values, each of the next bytes, of which it takes so many
 unfoldable pub pieces : {A : Type 0} → (List ℕ → A) → ℕ → ℕ → List ℕ → List A
@@ -20,7 +21,8 @@ row_in width channels bytes = pieces (sample_in width) width channels bytes ++ r
 
 -- the rows of all frames
 abbrev pub rows_in : ℕ → ℕ → List ℕ → List (List ℤ)
-rows_in width channels bytes = pieces (row_in width channels) (channels * width) (length bytes / (channels * width)) bytes
+rows_in width channels bytes =
+    pieces (row_in width channels) (channels * width) (length bytes / (channels * width)) bytes
 
 -- the low bits that a sample of this depth doesn't have are 0
 unfoldable pub is_clear : ℕ → ℤ → Bool
@@ -48,16 +50,19 @@ pub record FirstFailingIsFirst (test : List ℤ → Bool) (rows : List (List ℤ
 
 -- the rows of all frames, whose low bits are 0
 abbrev pub AreUnpacked : ℕ → ℕ → ℕ → List ℕ → List (List ℤ) → Type 0
-AreUnpacked width depth channels bytes rows = (rows ≡ rows_in width channels bytes) × IsTrue (list_all (are_clear depth) (rows_in width channels bytes))
+AreUnpacked width depth channels bytes rows = (rows ≡ rows_in width channels bytes)
+    × IsTrue (list_all (are_clear depth) (rows_in width channels bytes))
 
 -- the rows before row i, the first that has a sample whose low bits aren't 0
 abbrev pub AreUnpackedTo : ℕ → ℕ → ℕ → List ℕ → List (List ℤ) → ℕ → Type 0
 AreUnpackedTo width depth channels bytes rows i =
-    IsFirstFailing (are_clear depth) (rows_in width channels bytes) i × (rows ≡ take i (rows_in width channels bytes))
+    IsFirstFailing (are_clear depth) (rows_in width channels bytes) i
+    × (rows ≡ take i (rows_in width channels bytes))
 
 -- the three bytes of a sample, and of a sample of 16 bits the upper two
 unfoldable pub sample_bytes : ℕ → ℤ → List ℕ
-sample_bytes bits sample = if bits == 16 then drop 1 (little_bytes 3 (low_bytes w64 3 sample)) else little_bytes 3 (low_bytes w64 3 sample)
+sample_bytes bits sample = if bits == 16 then drop 1 (little_bytes 3 (low_bytes w64 3 sample))
+    else little_bytes 3 (low_bytes w64 3 sample)
 
 abbrev pub row_bytes : ℕ → ℕ → List ℤ → List ℕ
 row_bytes bits channels row = flat_map (sample_bytes bits) (take channels row)
@@ -102,15 +107,22 @@ Packs bits channels rows out (Err i) = (first_low bits channels rows ≡ Some i)
 
 -- packed are the bytes from which rows were unpacked, and `pack` accepts these rows
 abbrev pub PackedIsUnpacked : Type 0
-PackedIsUnpacked = (width depth channels : ℕ) (bytes : List ℕ) → IsForm width depth → 1 ≤ channels → channels ≤ 8 → AreFrames width channels bytes
-    → (packed (8 * width) channels (rows_in width channels bytes) ≡ bytes) × IsTrue (list_all (is_packable (8 * width) channels) (rows_in width channels bytes))
+PackedIsUnpacked = (width depth channels : ℕ) (bytes : List ℕ) → IsForm width depth
+    → 1 ≤ channels → channels ≤ 8 → AreFrames width channels bytes
+    → (packed (8 * width) channels (rows_in width channels bytes) ≡ bytes)
+    × IsTrue (list_all (is_packable (8 * width) channels) (rows_in width channels bytes))
 
 -- rows that `unpack` accepts are rows of that depth
 abbrev pub UnpackedAreRows : Type 0
-UnpackedAreRows = (width depth channels : ℕ) (bytes : List ℕ) → IsForm width depth → 1 ≤ channels → channels ≤ 8 → AreFrames width channels bytes
-    → IsTrue (list_all (are_clear depth) (rows_in width channels bytes)) → All (IsRow depth channels) (rows_in width channels bytes)
+UnpackedAreRows = (width depth channels : ℕ) (bytes : List ℕ) → IsForm width depth
+    → 1 ≤ channels → channels ≤ 8 → AreFrames width channels bytes
+    → IsTrue (list_all (are_clear depth) (rows_in width channels bytes))
+    → All (IsRow depth channels) (rows_in width channels bytes)
 
 -- unpacked are the rows that were packed, whose bytes are whole frames, and both accept them
 abbrev pub UnpackedIsPacked : Type 0
-UnpackedIsPacked = (width depth channels : ℕ) (rows : List (List ℤ)) → IsForm width depth → 1 ≤ channels → channels ≤ 8 → All (IsRow depth channels) rows
-    → (rows_in width channels (packed (8 * width) channels rows) ≡ rows) × AreFrames width channels (packed (8 * width) channels rows) × IsTrue (list_all (is_packable (8 * width) channels) rows) × IsTrue (list_all (are_clear depth) rows)
+UnpackedIsPacked = (width depth channels : ℕ) (rows : List (List ℤ))
+    → IsForm width depth → 1 ≤ channels → channels ≤ 8 → All (IsRow depth channels) rows
+    → (rows_in width channels (packed (8 * width) channels rows) ≡ rows)
+    × AreFrames width channels (packed (8 * width) channels rows)
+    × IsTrue (list_all (is_packable (8 * width) channels) rows) × IsTrue (list_all (are_clear depth) rows)

@@ -20,20 +20,26 @@ Takes before after taken xs n = (n ≡ taken + length xs) × (n ≤ limit) × Co
 
 -- .. so many bytes
 abbrev pub TakesCount : Option (List ℕ) → Option (List ℕ) → ℕ → ℕ → ℕ → Type 0
-TakesCount before after taken count n = (n ≡ taken + count) × (n ≤ limit) × (xs : List ℕ) × Consumes before after xs × (length xs ≡ count)
+TakesCount before after taken count n = (n ≡ taken + count) × (n ≤ limit)
+    × (xs : List ℕ) × Consumes before after xs × (length xs ≡ count)
 
 -- .. so many bytes, of which these are the first
 abbrev pub TakesBehind : Option (List ℕ) → Option (List ℕ) → ℕ → List ℕ → ℕ → ℕ → Type 0
 TakesBehind before after taken first count n =
-    (n ≡ taken + count) × (n ≤ limit) × (xs : List ℕ) × Consumes before after (first ++ xs) × (length first + length xs ≡ count)
+    (n ≡ taken + count) × (n ≤ limit) × (xs : List ℕ)
+    × Consumes before after (first ++ xs) × (length first + length xs ≡ count)
 
--- Why not so many bytes came behind those taken: the source failed, the input ended, or the limit came and one byte more.
+-- Why not so many bytes came behind those taken: the source failed, the input ended,
+-- or the limit came and one byte more.
 abbrev pub Stops : Option (List ℕ) → Option (List ℕ) → ℕ → ℕ → WaveField → WaveRefusal → Type 0
-Stops before after taken count short Read = (xs : List ℕ) × Consumes before after xs × (length xs < count) × (taken + length xs ≤ limit)
+Stops before after taken count short Read =
+    (xs : List ℕ) × Consumes before after xs × (length xs < count) × (taken + length xs ≤ limit)
 Stops before after taken count short (Header field) =
-    (field ≡ short) × ((xs : List ℕ) × Consumes before after xs × IsAtEnd after × (length xs < count) × (taken + length xs ≤ limit))
+    (field ≡ short) × ((xs : List ℕ) × Consumes before after xs
+    × IsAtEnd after × (length xs < count) × (taken + length xs ≤ limit))
 Stops before after taken count short TooLong =
-    (xs : List ℕ) × (b : ℕ) × Consumes before after (xs ++ b ∷ []) × (length xs < count) × (taken + length xs ≡ limit)
+    (xs : List ℕ) × (b : ℕ) × Consumes before after (xs ++ b ∷ [])
+    × (length xs < count) × (taken + length xs ≡ limit)
 
 abbrev pub the_refusal : WaveRefusal → Result ℕ WaveRefusal
 the_refusal e = Err e

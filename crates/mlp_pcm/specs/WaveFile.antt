@@ -73,7 +73,8 @@ pub record IsWave (bytes : List ℕ) (format : Format) (size : ℕ) (rest : List
 
 -- bytes say that a header begins exactly where they are one
 abbrev pub BeginsWhereWave : Type 0
-BeginsWhereWave = (bytes : List ℕ) (format : Format) (size : ℕ) (rest : List ℕ) → Says bytes (begins format size rest) ↔ IsWave bytes format size rest
+BeginsWhereWave = (bytes : List ℕ) (format : Format) (size : ℕ) (rest : List ℕ)
+    → Says bytes (begins format size rest) ↔ IsWave bytes format size rest
 
 -- data before any format
 pub record LacksFormat (bytes : List ℕ) (field : WaveField) : Type 0 where
@@ -117,16 +118,20 @@ pub record IsWrongRiff (bytes : List ℕ) (field : WaveField) : Type 0 where
 
 -- bytes say that a field is wrong exactly where it is the first that is
 abbrev pub RefusedWhereWrong : Type 0
-RefusedWhereWrong = (bytes : List ℕ) (field : WaveField) → Says bytes (refused field) ↔ (IsWrongRiff bytes field ⊎ IsWrongInside bytes field)
+RefusedWhereWrong = (bytes : List ℕ) (field : WaveField) → Says bytes (refused field)
+    ↔ (IsWrongRiff bytes field ⊎ IsWrongInside bytes field)
 
 -- bytes have one answer
 abbrev pub HasOneAnswer : List ℕ → Type 0
-HasOneAnswer bytes = ((answer : Answer) × Says bytes answer × (answer ≡ unknown → ⊥)) × ((a b : Answer) → Says bytes a → Says bytes b → (a ≡ unknown → ⊥) → (b ≡ unknown → ⊥) → a ≡ b)
+HasOneAnswer bytes = ((answer : Answer) × Says bytes answer × (answer ≡ unknown → ⊥))
+    × ((a b : Answer) → Says bytes a → Says bytes b
+    → (a ≡ unknown → ⊥) → (b ≡ unknown → ⊥) → a ≡ b)
 
 -- bytes behind a header, or behind a wrong field, change nothing before them
 abbrev pub StaysSo : Type 0
 StaysSo = (bytes more : List ℕ)
-    → ((format : Format) (size : ℕ) (rest : List ℕ) → Says bytes (begins format size rest) → Says (bytes ++ more) (begins format size (rest ++ more)))
+    → ((format : Format) (size : ℕ) (rest : List ℕ) → Says bytes (begins format size rest)
+    → Says (bytes ++ more) (begins format size (rest ++ more)))
     × ((field : WaveField) → Says bytes (refused field) → Says (bytes ++ more) (refused field))
 
 -- what `write_wave_header` takes
@@ -141,4 +146,5 @@ pub record IsWritable (channels rate bits size : ℕ) : Type 0 where
 -- a header that was written is read back, whatever stands behind it
 abbrev pub WrittenIsRead : Type 0
 WrittenIsRead = (channels rate bits size : ℕ) (rest : List ℕ) → IsWritable channels rate bits size
-    → Says (wave_header channels rate bits size ++ rest) (begins (record { channels = channels; rate = rate; depth = bits; width = bits / 8 }) size rest)
+    → Says (wave_header channels rate bits size ++ rest)
+    (begins (record { channels = channels; rate = rate; depth = bits; width = bits / 8 }) size rest)

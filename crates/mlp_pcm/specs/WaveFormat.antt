@@ -19,7 +19,8 @@ depth_of width bits = if (bits == 16 && width == 2) || ((bits == 20 || bits == 2
 
 -- the bits of a sample that count: those that an extensible format says are valid, where it says any
 unfoldable pub bits_of : List ℕ → ℕ
-bits_of content = if number_at 2 0 content == extensible && not (number_at 2 18 content == 0) then number_at 2 18 content else number_at 2 14 content
+bits_of content = if number_at 2 0 content == extensible && not (number_at 2 18 content == 0)
+    then number_at 2 18 content else number_at 2 14 content
 
 -- the bytes of a sample
 abbrev pub width_of : List ℕ → ℕ
@@ -29,7 +30,8 @@ unfoldable pub too_small : ℕ → List ℕ → Bool
 too_small size content = nat_lt size 16 || (number_at 2 0 content == extensible && nat_lt size 40)
 
 unfoldable pub pcm : List ℕ → Bool
-pcm content = number_at 2 0 content == 1 || (number_at 2 0 content == extensible && starts_with nat_eq (drop 24 content) pcm_identifier)
+pcm content = number_at 2 0 content == 1
+    || (number_at 2 0 content == extensible && starts_with nat_eq (drop 24 content) pcm_identifier)
 
 unfoldable pub wrong_bits : List ℕ → Bool
 wrong_bits content = number_at 2 14 content == 0 || nat_lt 32 (number_at 2 14 content)
@@ -39,7 +41,12 @@ aligned content = number_at 2 12 content == number_at 2 2 content * width_of con
 
 -- the samples that it describes
 unfoldable pub described : List ℕ → Format
-described content = record { channels = number_at 2 2 content; rate = number_at 4 4 content; depth = depth_of (width_of content) (bits_of content); width = width_of content }
+described content = record {
+  channels = number_at 2 2 content;
+  rate = number_at 4 4 content;
+  depth = depth_of (width_of content) (bits_of content);
+  width = width_of content;
+}
 
 -- what a fmt chunk of a size that begins with these bytes says, or the first field that is wrong
 unfoldable pub judged : ℕ → List ℕ → Result Format WaveField

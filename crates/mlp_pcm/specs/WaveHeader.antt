@@ -4,7 +4,8 @@ use Rattle.byteorder.specs.Endian.{little_bytes}
 
 -- the identifier of PCM in an extensible format
 abbrev pub pcm_identifier : List ℕ
-pcm_identifier = 0x01 ∷ 0x00 ∷ 0x00 ∷ 0x00 ∷ 0x00 ∷ 0x00 ∷ 0x10 ∷ 0x00 ∷ 0x80 ∷ 0x00 ∷ 0x00 ∷ 0xAA ∷ 0x00 ∷ 0x38 ∷ 0x9B ∷ 0x71 ∷ []
+pcm_identifier = 0x01 ∷ 0x00 ∷ 0x00 ∷ 0x00 ∷ 0x00 ∷ 0x00 ∷ 0x10 ∷ 0x00
+    ∷ 0x80 ∷ 0x00 ∷ 0x00 ∷ 0xAA ∷ 0x00 ∷ 0x38 ∷ 0x9B ∷ 0x71 ∷ []
 
 -- the tag of an extensible format
 abbrev pub extensible : ℕ
@@ -23,7 +24,8 @@ abbrev pub wave_header : ℕ → ℕ → ℕ → ℕ → List ℕ
 wave_header channels rate bits size =
     codes "RIFF" ++ little_bytes 4 (60 + padded size) ++ codes "WAVE"
     ++ codes "fmt " ++ little_bytes 4 40
-    ++ little_bytes 2 extensible ++ little_bytes 2 channels ++ little_bytes 4 rate ++ little_bytes 4 (rate * align_of channels bits)
+    ++ little_bytes 2 extensible ++ little_bytes 2 channels
+    ++ little_bytes 4 rate ++ little_bytes 4 (rate * align_of channels bits)
     ++ little_bytes 2 (align_of channels bits) ++ little_bytes 2 bits
     ++ little_bytes 2 22 ++ little_bytes 2 bits ++ little_bytes 4 0 ++ pcm_identifier
     ++ codes "data" ++ little_bytes 4 size

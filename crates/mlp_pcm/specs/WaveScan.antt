@@ -26,7 +26,8 @@ pub data Answer : Type 0 where
   unknown : Answer
 
 -- the chunks from here on
-unfoldable pub after_format : (Option Format → List ℕ → Answer) → Result Format WaveField → List ℕ → Answer
+unfoldable pub after_format : (Option Format → List ℕ → Answer)
+    → Result Format WaveField → List ℕ → Answer
 after_format go (Err field) rest = refused field
 after_format go (Ok format) rest = go (Some format) rest
 
@@ -40,13 +41,15 @@ chunk go seen head rest =
     if starts_with nat_eq head (codes "data") then at_data seen (number_at 4 4 head) rest
     else (if nat_lt (length rest) (padded (number_at 4 4 head)) then unfinished Chunk
     else (if starts_with nat_eq head (codes "fmt ") && is_none seen
-    then after_format go (judged (number_at 4 4 head) (take (min (padded (number_at 4 4 head)) 40) rest)) (drop (padded (number_at 4 4 head)) rest)
+    then after_format go (judged (number_at 4 4 head) (take (min (padded (number_at 4 4 head)) 40) rest))
+    (drop (padded (number_at 4 4 head)) rest)
     else go seen (drop (padded (number_at 4 4 head)) rest)))
 
 -- at most n chunks, where a format was seen before or not
 unfoldable pub chunks : ℕ → Option Format → List ℕ → Answer
 chunks zero seen bytes = unknown
-chunks (suc n) seen bytes = if nat_lt (length bytes) 8 then unfinished Chunk else chunk (chunks n) seen (take 8 bytes) (drop 8 bytes)
+chunks (suc n) seen bytes = if nat_lt (length bytes) 8 then unfinished Chunk
+    else chunk (chunks n) seen (take 8 bytes) (drop 8 bytes)
 
 -- the first 12 bytes
 abbrev pub is_riff : List ℕ → Bool
@@ -68,22 +71,30 @@ pub record UnfinishedWhereCut (bytes : List ℕ) : Type 0 where
   pub riff : Says bytes (unfinished Riff) ↔ (length bytes < 12)
   pub chunk : (field : WaveField) → Says bytes (unfinished field) → 12 ≤ length bytes → field ≡ Chunk
 
--- What a chunk was: the bytes taken for it, and what all bytes say by those behind them. `meaning n` looks at n chunks more.
-abbrev pub IsTurn : Option (List ℕ) → Option (List ℕ) → ℕ → (ℕ → List ℕ → Answer) → Turn → Type 0
+-- What a chunk was: the bytes taken for it, and what all bytes say by those behind them.
+-- `meaning n` looks at n chunks more.
+abbrev pub IsTurn : Option (List ℕ) → Option (List ℕ)
+    → ℕ → (ℕ → List ℕ → Answer) → Turn → Type 0
 IsTurn before after taken meaning (Data format size at) =
-    (xs : List ℕ) × Consumes before after xs × (at ≡ taken + length xs) × (at ≤ limit) × ((n : ℕ) (rest : List ℕ) → meaning n (xs ++ rest) ≡ begins format size rest)
+    (xs : List ℕ) × Consumes before after xs × (at ≡ taken + length xs) × (at ≤ limit)
+    × ((n : ℕ) (rest : List ℕ) → meaning n (xs ++ rest) ≡ begins format size rest)
 IsTurn before after taken meaning (Passed format at) =
-    (xs : List ℕ) × Consumes before after xs × (at ≡ taken + length xs) × (at ≤ limit) × ((n : ℕ) (rest : List ℕ) → meaning n (xs ++ rest) ≡ chunks n format rest)
+    (xs : List ℕ) × Consumes before after xs × (at ≡ taken + length xs) × (at ≤ limit)
+    × ((n : ℕ) (rest : List ℕ) → meaning n (xs ++ rest) ≡ chunks n format rest)
 
--- Why there was none: a failed read inside, a wrong field, the end of the input inside, or the limit with one byte more inside. The
--- bytes taken were consumed.
-abbrev pub Ends : Option (List ℕ) → Option (List ℕ) → ℕ → (List ℕ → Answer → Type 0) → WaveRefusal → Type 0
+-- Why there was none: a failed read inside, a wrong field, the end of the input inside, or the limit with one byte more
+-- inside. The bytes taken were consumed.
+abbrev pub Ends : Option (List ℕ) → Option (List ℕ) → ℕ
+    → (List ℕ → Answer → Type 0) → WaveRefusal → Type 0
 Ends before after taken Meaning Read =
-    (xs : List ℕ) × Consumes before after xs × (taken + length xs ≤ limit) × (field : WaveField) × Meaning xs (unfinished field)
+    (xs : List ℕ) × Consumes before after xs × (taken + length xs ≤ limit)
+    × (field : WaveField) × Meaning xs (unfinished field)
 Ends before after taken Meaning (Header field) =
-    (xs : List ℕ) × Consumes before after xs × (taken + length xs ≤ limit) × (Meaning xs (refused field) ⊎ (Meaning xs (unfinished field) × IsAtEnd after))
+    (xs : List ℕ) × Consumes before after xs × (taken + length xs ≤ limit)
+    × (Meaning xs (refused field) ⊎ (Meaning xs (unfinished field) × IsAtEnd after))
 Ends before after taken Meaning TooLong =
-    (xs : List ℕ) × (b : ℕ) × Consumes before after (xs ++ b ∷ []) × (taken + length xs ≡ limit) × (field : WaveField) × Meaning xs (unfinished field)
+    (xs : List ℕ) × (b : ℕ) × Consumes before after (xs ++ b ∷ [])
+    × (taken + length xs ≡ limit) × (field : WaveField) × Meaning xs (unfinished field)
 
 -- what the chunks from here on say
 abbrev pub ChunksSay : Option Format → List ℕ → Answer → Type 0
@@ -105,7 +116,8 @@ HeaderSays xs answer = (n : ℕ) → header n xs ≡ answer
 -- the first 12 bytes were taken, and are those of a WAVE file
 abbrev pub TakesRiff : Option (List ℕ) → Option (List ℕ) → Type 0
 TakesRiff before after =
-    (xs : List ℕ) × Consumes before after xs × (length xs ≡ 12) × ((n : ℕ) (rest : List ℕ) → header n (xs ++ rest) ≡ chunks n None rest)
+    (xs : List ℕ) × Consumes before after xs × (length xs ≡ 12)
+    × ((n : ℕ) (rest : List ℕ) → header n (xs ++ rest) ≡ chunks n None rest)
 
 -- what the chunks behind them say
 abbrev pub AllChunksSay : List ℕ → Answer → Type 0
@@ -116,8 +128,10 @@ format_of info = record { channels = info.channels; rate = info.rate; depth = in
 
 -- the chunks up to the data were taken
 abbrev pub Chunked : Option (List ℕ) → Option (List ℕ) → WaveInfo → Type 0
-Chunked before after info = (xs : List ℕ) × Consumes before after xs × (info.taken ≡ 12 + length xs) × (info.taken ≤ limit) × AllChunksSay xs (begins (format_of info) info.size [])
+Chunked before after info = (xs : List ℕ) × Consumes before after xs × (info.taken ≡ 12 + length xs)
+    × (info.taken ≤ limit) × AllChunksSay xs (begins (format_of info) info.size [])
 
 -- the whole header was taken, and nothing behind it
 abbrev pub Began : Option (List ℕ) → Option (List ℕ) → WaveInfo → Type 0
-Began before after info = (xs : List ℕ) × Consumes before after xs × (info.taken ≡ length xs) × (info.taken ≤ limit) × Says xs (begins (format_of info) info.size [])
+Began before after info = (xs : List ℕ) × Consumes before after xs × (info.taken ≡ length xs)
+    × (info.taken ≤ limit) × Says xs (begins (format_of info) info.size [])

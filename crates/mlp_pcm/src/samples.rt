@@ -63,7 +63,8 @@ fn all_clear(samples: &[i32], depth: u8) -> bool
     samples.iter().all(|sample| clear(*sample, depth))
 }
 
-/// Puts the frames of these bytes into `out`, which has none, up to the first that has a sample whose low bits aren't 0.
+/// Puts the frames of these bytes into `out`, which has none,
+/// up to the first that has a sample whose low bits aren't 0.
 #[inline]
 #[tactic(auto, unfolding(crate::specs::Samples::pieces))]
 fn unpack_frames(
@@ -123,8 +124,8 @@ fn unpack_channels(
 ///
 /// # Errors
 ///
-/// The number of the first frame that has a sample whose low bits, which its depth doesn't have, are not 0. `out` then has
-/// the frames before it.
+/// The number of the first frame that has a sample whose low bits, which its depth doesn't have, are not 0. `out` then
+/// has the frames before it.
 pub fn unpack(bytes: &[u8], width: u8, depth: u8, channels: u8, out: &mut Frames) -> Result<(), u32>
     requires form { IsForm width depth }
     requires channels { (1 ≤ channels) × (channels ≤ 8) }
@@ -182,8 +183,8 @@ fn put_samples(samples: &[i32], bits: u8, place: usize, out: &mut [u8]) -> (usiz
     (end, all_clear)
 }
 
-/// Puts the bytes of these frames into `out`, which has none, or leaves it where a frame has a sample whose low byte isn't 0.
-/// They are gathered in `bytes`.
+/// Puts the bytes of these frames into `out`, which has none, or leaves it where a frame has a sample whose low byte
+/// isn't 0. They are gathered in `bytes`.
 #[inline]
 #[tactic(auto, using(crate::proofs::Pieces::one_more_fits))]
 fn pack_frames<const N: usize>(
@@ -277,8 +278,8 @@ pub fn pack(frames: &Frames, bits: u8, out: &mut ArrayVec<u8, 3840>) -> Result<(
     pack_bits(frames.rows.as_slice(), frames.channels, bits, out)
 }
 
-/// The same of the first `channels` samples of each frame of a unit, into the bytes of a unit: 160 frames of 8 channels are at most
-/// 3840 bytes.
+/// The same of the first `channels` samples of each frame of a unit, into the bytes of a unit: 160 frames of 8 channels
+/// are at most 3840 bytes.
 ///
 /// # Errors
 ///

@@ -61,7 +61,8 @@ fn passed<S: Source>(
     requires taken { taken ≤ limit }
     requires head { length head.now ≡ 8 }
     requires other { starts_with nat_eq head.now (codes "data") ≡ false }
-    ensures ok { IfOk result (IsTurn (S.left source.old) (S.left source.new) taken (λ n xs. chunk (chunks n) seen head.now xs)) }
+    ensures ok { IfOk result
+        (IsTurn (S.left source.old) (S.left source.new) taken (λ n xs. chunk (chunks n) seen head.now xs)) }
     ensures err { IfErr result (Ends (S.left source.old) (S.left source.new) taken (ContentSays seen head.now)) }
     ensures cause { IsCause (is_read_fault result) (S.faults source.old) (S.faults source.new) }
 {

@@ -85,9 +85,9 @@ fn take_chunks<S: Source>(source: &mut S) -> Result<WaveInfo, WaveRefusal>
 ///
 /// # Errors
 ///
-/// `Read` only where the source's count of faults rose, and that count stays at every other answer: the bytes taken were then
-/// consumed, and are a header that isn't finished. `Header` with the first field that is wrong. `TooLong` where the header has
-/// more than 2^40 bytes.
+/// `Read` only where the source's count of faults rose, and that count stays at every other answer: the bytes taken
+/// were then consumed, and are a header that isn't finished. `Header` with the first field that is wrong. `TooLong`
+/// where the header has more than 2^40 bytes.
 pub fn read_wave_header<S: Source>(source: &mut S) -> Result<WaveInfo, WaveRefusal>
     ensures ok { IfOk result (Began (S.left source.old) (S.left source.new)) }
     ensures err { IfErr result (Ends (S.left source.old) (S.left source.new) 0 Says) }

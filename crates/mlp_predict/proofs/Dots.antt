@@ -23,7 +23,8 @@ product_bounds c v small fits =
     (omega (arith, ints, m, e), omega (arith, ints, m, e))
 
 -- the product that the code computes
-pub product_is_lem : (c v r q : ℤ) → IsCoefficient c → FitsSigned w32 c → FitsSigned w32 v → r ≡ to_z w32 (of_z w32 c) → q ≡ to_z w32 (of_z w32 v) → to_z w64 (of_z w64 (to_z w64 (of_z w64 r) *ℤ to_z w64 (of_z w64 q))) ≡ c *ℤ v
+pub product_is_lem : (c v r q : ℤ) → IsCoefficient c → FitsSigned w32 c → FitsSigned w32 v → r ≡ to_z w32 (of_z w32 c)
+    → q ≡ to_z w32 (of_z w32 v) → to_z w64 (of_z w64 (to_z w64 (of_z w64 r) *ℤ to_z w64 (of_z w64 q))) ≡ c *ℤ v
 product_is_lem c v r q small f g e h =
     let a : r ≡ c = e ∙ to_z-of_z w32 c f in
     let b : q ≡ v = h ∙ to_z-of_z w32 v g in

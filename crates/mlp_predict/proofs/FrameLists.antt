@@ -38,7 +38,8 @@ block_outputs m n f past q (r ∷ rs) a b =
     let x : ℤ = restored f past q r in
     ap (λ (xs : List ℤ). x ∷ xs) (block_outputs m n f (latest m n (past_after f past x)) q rs a b ∙ outputs_of-latest m n f (past_after f past x) q rs a b)
 
-block_past : (m n : ℕ) (f : Filters) (past : Past) (q : ℕ) (rs : List ℤ) → length f.fir ≤ m → length f.iir ≤ n → past ≡ latest m n past → past_from m n past (block_of f q rs) ≡ latest m n (past_of f past (outputs_of f past q rs))
+block_past : (m n : ℕ) (f : Filters) (past : Past) (q : ℕ) (rs : List ℤ) → length f.fir ≤ m → length f.iir ≤ n
+    → past ≡ latest m n past → past_from m n past (block_of f q rs) ≡ latest m n (past_of f past (outputs_of f past q rs))
 block_past m n f past q [] a b e = e
 block_past m n f past q (r ∷ rs) a b e =
     let x : ℤ = restored f past q r in
@@ -48,7 +49,8 @@ block_past m n f past q (r ∷ rs) a b e =
     ∙ past_of-latest m n f after (outputs_of f after q rs) a b
 
 -- with a state before the first frame
-pub state_outputs : (m n : ℕ) (f : Filters) (past : Past) (q : ℕ) (state rs : List ℤ) → length f.fir ≤ m → length f.iir ≤ n → outputs_from m n past (with_state_first state (block_of f q rs)) ≡ outputs_of f (with_state state past) q rs
+pub state_outputs : (m n : ℕ) (f : Filters) (past : Past) (q : ℕ) (state rs : List ℤ) → length f.fir ≤ m → length f.iir ≤ n
+    → outputs_from m n past (with_state_first state (block_of f q rs)) ≡ outputs_of f (with_state state past) q rs
 state_outputs m n f past q state [] a b = refl
 state_outputs m n f past q state (r ∷ rs) a b =
     let p : Past = with_state state past in

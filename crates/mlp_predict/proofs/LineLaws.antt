@@ -141,7 +141,8 @@ reverse-zeros (suc n) = reverse-append (pos 0 ∷ []) (replicate n (pos 0)) ∙ 
     one_more (suc k) = ap (λ (ys : List ℤ). pos 0 ∷ ys) (one_more k)
 
 -- what stands before the block: zeros, and the values behind them
-pub front_before : (room : ℕ) (vs line : List ℤ) → 16 ≤ room → length vs ≤ 16 → line ≡ take (16 - length vs) (empty room) ++ reverse vs ++ drop 16 (empty room) → take 16 line ≡ replicate (16 - length vs) (pos 0) ++ reverse vs
+pub front_before : (room : ℕ) (vs line : List ℤ) → 16 ≤ room → length vs ≤ 16
+    → line ≡ take (16 - length vs) (empty room) ++ reverse vs ++ drop 16 (empty room) → take 16 line ≡ replicate (16 - length vs) (pos 0) ++ reverse vs
 front_before room vs line large few e =
     let k : ℕ = 16 - length vs in
     let front : List ℤ = replicate k (pos 0) ++ reverse vs in
@@ -156,7 +157,8 @@ front_reversed k vs =
     ∙ ap (λ (ys : List ℤ). vs ++ ys) (reverse-zeros k)
 
 -- the latest first: the values, and zeros behind them
-values_before : (room : ℕ) (vs line : List ℤ) → 16 ≤ room → length vs ≤ 16 → line ≡ take (16 - length vs) (empty room) ++ reverse vs ++ drop 16 (empty room) → reverse (take 16 line) ≡ vs ++ replicate (16 - length vs) (pos 0)
+values_before : (room : ℕ) (vs line : List ℤ) → 16 ≤ room → length vs ≤ 16
+    → line ≡ take (16 - length vs) (empty room) ++ reverse vs ++ drop 16 (empty room) → reverse (take 16 line) ≡ vs ++ replicate (16 - length vs) (pos 0)
 values_before room vs line large few e = ap reverse (front_before room vs line large few e) ∙ front_reversed (16 - length vs) vs
 
 -- lines behind a block

@@ -16,7 +16,8 @@ pub moved : {A : Type 0} (xs : List A) (n : ℕ) → 0 < n → n ≤ 16 → leng
 moved xs n h k l = grind (arith, common_steps)
 
 -- the latest values after a push, from the buffer's start
-pub pushed_low : {A : Type 0} (xs old : List A) (n : ℕ) (v : A) (ys : List A) (at : ℕ) → ys ≡ copy_within xs 0 (n - 1) (65 - n) → at ≡ 65 - n → 0 < n → n ≤ 16 → length xs ≡ 64 → old ≡ take n xs → take n (drop (at - 1) (set ys
+pub pushed_low : {A : Type 0} (xs old : List A) (n : ℕ) (v : A) (ys : List A) (at : ℕ) → ys ≡ copy_within xs 0 (n - 1) (65 - n)
+    → at ≡ 65 - n → 0 < n → n ≤ 16 → length xs ≡ 64 → old ≡ take n xs → take n (drop (at - 1) (set ys
     (at - 1) v)) ≡ v ∷ take (n - 1) old
 pushed_low xs old n v ys at e f h k l o = grind (arith, common_steps, slid ys at n v, moved xs n h k l)
 

@@ -20,7 +20,11 @@ shift_where [] fir iir = iir
 shift_where (c ∷ cs) fir iir = fir
 
 abbrev pub filters_of : {F I : ℕ} → Filter F → Filter I → Filters
-filters_of fir iir = record { fir = coefficients fir; iir = coefficients iir; shift = shift_where fir.coeffs.items fir.shift iir.shift }
+filters_of fir iir = record {
+  fir = coefficients fir;
+  iir = coefficients iir;
+  shift = shift_where fir.coeffs.items fir.shift iir.shift;
+}
 
 -- the differences that a state stands for
 abbrev pub differences_of : FilterState → List ℤ

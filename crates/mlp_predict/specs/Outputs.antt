@@ -27,7 +27,8 @@ seen frames e i = replaced (frames i).state (left_by frames e i)
 
 -- x are the outputs, e the differences and p the predictions of the frames since a restart
 pub record AreOutputs (frames : ℕ → Frame) (x e p : ℕ → ℤ) : Type 0 where
-  pub predicted : (i : ℕ) → p i ≡ floor_by (frames i).filters.shift (dot (frames i).filters.fir (before x i) +ℤ dot (frames i).filters.iir (seen frames e i))
+  pub predicted : (i : ℕ) → p i ≡ floor_by (frames i).filters.shift
+      (dot (frames i).filters.fir (before x i) +ℤ dot (frames i).filters.iir (seen frames e i))
   pub output : (i : ℕ) → x i ≡ wrap (clear (frames i).step (p i +ℤ (frames i).residual))
   pub difference : (i : ℕ) → e i ≡ wrap (x i -ℤ p i)
 
@@ -38,7 +39,8 @@ abbrev pub output_after : Past → Frame → ℤ
 output_after past frame = restored frame.filters (with_state frame.state past) frame.step frame.residual
 
 abbrev pub step_after : ℕ → ℕ → Past → Frame → Past
-step_after m n past frame = latest m n (past_after frame.filters (with_state frame.state past) (output_after past frame))
+step_after m n past frame =
+    latest m n (past_after frame.filters (with_state frame.state past) (output_after past frame))
 
 -- the past that i frames leave
 abbrev pub steps_after : ℕ → ℕ → (ℕ → Frame) → ℕ → Past
@@ -58,7 +60,8 @@ AreWithin m n frames = (i : ℕ) → IsWithin m n (frames i)
 
 abbrev pub past_at : (ℕ → Frame) → ℕ → Past
 past_at frames zero = nothing
-past_at frames (suc i) = past_after (frames i).filters (with_state (frames i).state (past_at frames i)) (output_after (past_at frames i) (frames i))
+past_at frames (suc i) = past_after (frames i).filters
+    (with_state (frames i).state (past_at frames i)) (output_after (past_at frames i) (frames i))
 
 abbrev pub outputs_at : (ℕ → Frame) → ℕ → ℤ
 outputs_at frames i = output_after (past_at frames i) (frames i)
@@ -74,7 +77,8 @@ differences_at frames i = wrap (outputs_at frames i -ℤ predictions_at frames i
 -- the output of each frame
 abbrev pub outputs_from : ℕ → ℕ → Past → List Frame → List ℤ
 outputs_from m n past [] = []
-outputs_from m n past (frame ∷ frames) = output_after past frame ∷ outputs_from m n (step_after m n past frame) frames
+outputs_from m n past (frame ∷ frames) =
+    output_after past frame ∷ outputs_from m n (step_after m n past frame) frames
 
 -- the past that the frames leave
 abbrev pub past_from : ℕ → ℕ → Past → List Frame → Past

@@ -37,7 +37,8 @@ reduced f past step sample = sample -ℤ clear step (predicted f past)
 
 -- the past after an output: its difference is what it has above its prediction
 abbrev pub past_after : Filters → Past → ℤ → Past
-past_after f past x = record { outputs = x ∷ past.outputs; differences = wrap (x -ℤ predicted f past) ∷ past.differences }
+past_after f past x =
+    record { outputs = x ∷ past.outputs; differences = wrap (x -ℤ predicted f past) ∷ past.differences }
 
 -- values with a state in the place of the latest ones
 abbrev pub replaced : List ℤ → List ℤ → List ℤ
@@ -67,7 +68,8 @@ with_zeros m n past = record {
 -- the outputs that residuals give, one after another
 abbrev pub outputs_of : Filters → Past → ℕ → List ℤ → List ℤ
 outputs_of f past step [] = []
-outputs_of f past step (r ∷ rs) = restored f past step r ∷ outputs_of f (past_after f past (restored f past step r)) step rs
+outputs_of f past step (r ∷ rs) =
+    restored f past step r ∷ outputs_of f (past_after f past (restored f past step r)) step rs
 
 -- the residuals of samples, one after another
 abbrev pub residuals_of : Filters → Past → ℕ → List ℤ → List ℤ

@@ -58,7 +58,8 @@ pub fn restore_behind<const M: usize>(
     requires latest_few { length latest.now ≤ 16 }
     requires empty { outputs.old ≡ replicate (length outputs.old) (pos 0) }
     requires most { 16 + length block.old ≤ length outputs.old }
-    ensures outputs { block.new ≡ outputs_of (filters_in fir.now [] shift) (record { outputs = latest.now; differences = [] }) step block.old }
+    ensures outputs { block.new ≡ outputs_of (filters_in fir.now [] shift)
+        (record { outputs = latest.now; differences = [] }) step block.old }
     ensures line { take (16 + length block.old) outputs.new
         ≡ (replicate (16 - length latest.now) (pos 0) ++ reverse latest.now) ++ block.new }
 {
@@ -84,7 +85,8 @@ pub fn put_differences<const M: usize, const I: usize>(
     requires kept { I ≤ 16 }
     requires room { 16 ≤ length outputs.now }
     ensures value { differences.new ≡ take I (past_of (filters_in fir.now [] shift)
-        (record { outputs = reverse (take 16 outputs.now); differences = differences.old }) (drop 16 outputs.now)).differences }
+        (record { outputs = reverse (take 16 outputs.now); differences = differences.old })
+        (drop 16 outputs.now)).differences }
     ensures count { length differences.new ≡ I }
 {
     let _ = differences.as_slice();

@@ -16,9 +16,11 @@ pub fn law_outputs()
     ensures only { (frames : ℕ → Frame) (x e p x' e' p' : ℕ → ℤ) →
         AreOutputs frames x e p → AreOutputs frames x' e' p' →
         (i : ℕ) → (x i ≡ x' i) × (e i ≡ e' i) × (p i ≡ p' i) }
-    ensures steps { (m n : ℕ) (frames : ℕ → Frame) (x e p : ℕ → ℤ) → AreWithin m n frames → AreOutputs frames x e p →
+    ensures steps { (m n : ℕ) (frames : ℕ → Frame) (x e p : ℕ → ℤ)
+        → AreWithin m n frames → AreOutputs frames x e p →
         (i : ℕ) → output_after (steps_after m n frames i) (frames i) ≡ x i }
-    ensures kept { (m n : ℕ) (frames : ℕ → Frame) (x e p : ℕ → ℤ) → AreWithin m n frames → AreOutputs frames x e p →
+    ensures kept { (m n : ℕ) (frames : ℕ → Frame) (x e p : ℕ → ℤ)
+        → AreWithin m n frames → AreOutputs frames x e p →
         (i : ℕ) → let past : Past = record { outputs = before x i; differences = left_by frames e i } in
         steps_after m n frames i ≡ latest m n (with_zeros m n past) }
 {}
@@ -51,6 +53,7 @@ pub fn law_frames()
 
 /// Residuals of samples without low `step` bits give back the samples.
 pub fn law_back()
-    ensures { (f : Filters) (past : Past) (step : ℕ) (samples : List ℤ) → All (λ x. clear step x ≡ x) samples →
+    ensures { (f : Filters) (past : Past) (step : ℕ) (samples : List ℤ)
+        → All (λ x. clear step x ≡ x) samples →
         All (FitsSigned w32) samples → outputs_of f past step (residuals_of f past step samples) ≡ samples }
 {}

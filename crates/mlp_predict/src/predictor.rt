@@ -117,7 +117,8 @@ impl<const F: usize, const I: usize> Predictor<F, I> {
         ensures value { IfSome result (λ r. r ≡ reduced (filters_of fir.now iir.now) self.old step sample) }
         ensures back { IfSome result
             (λ r. clear step sample ≡ sample → restored (filters_of fir.now iir.now) self.old step r ≡ sample) }
-        ensures past { OnSome result (self.new ≡ latest F I (past_after (filters_of fir.now iir.now) self.old sample)) }
+        ensures past { OnSome result
+            (self.new ≡ latest F I (past_after (filters_of fir.now iir.now) self.old sample)) }
         ensures none { IfNone result (self.new ≡ self.old) }
     {
         let fir_taps: [i32; F] = taps(fir.coeffs.as_slice(), fir.coeff_shift);

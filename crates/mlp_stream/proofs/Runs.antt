@@ -20,7 +20,8 @@ module _ {S : Type 0} (step : S → Bool → List ℕ → Move S) (last : S → 
   takes s next ended n out t e = subst (TakesWithin count s next) e (laws.within s next ended)
 
   -- it doesn't matter how many moves are allowed, if they are enough
-  turns_move : (f g : ℕ) (ended : Bool) (s : S) (bytes : List ℕ) → ((t : S) (rest : List ℕ) → length rest < length bytes → run_for step last f ended t rest ≡ run_for step last g ended t rest) → (m : Move S) → TakesWithin count s bytes m
+  turns_move : (f g : ℕ) (ended : Bool) (s : S) (bytes : List ℕ)
+      → ((t : S) (rest : List ℕ) → length rest < length bytes → run_for step last f ended t rest ≡ run_for step last g ended t rest) → (m : Move S) → TakesWithin count s bytes m
       → on_move step last (λ t rest. run_for step last f ended t rest) s bytes m ≡ on_move step last (λ t rest. run_for step last g ended t rest) s bytes m
   turns_move f g ended s bytes same Waits w = refl
   turns_move f g ended s bytes same (Takes n out t) w = ap (after out) (same t (drop n bytes) (omega (arith, length-drop n bytes)))

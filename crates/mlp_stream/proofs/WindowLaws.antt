@@ -23,7 +23,8 @@ skipped room start end count le =
     sym (subst (λ (k : ℕ). drop count (take k (drop start room)) ≡ take rest (drop count (drop start room))) same cut ∙ ap (take rest) (drop-drop count start room))
 
 -- so many bytes came
-pub gave : (rest : Rest) (taken before_taken count want : ℕ) (a b : Option (List ℕ)) (buf : List ℕ) → taken ≡ before_taken + count → before_taken ≤ limit → taken ≤ limit + 1 → count ≤ length buf → RestIs taken count want rest
+pub gave : (rest : Rest) (taken before_taken count want : ℕ) (a b : Option (List ℕ)) (buf : List ℕ)
+    → taken ≡ before_taken + count → before_taken ≤ limit → taken ≤ limit + 1 → count ≤ length buf → RestIs taken count want rest
     → Consumes a b (take count buf) → (count < want → IsAtEnd b) → Gave rest (before_taken + kept rest count) a b (take (kept rest count) buf)
 gave More taken before_taken count want a b buf sum low high fits is took end = took
 gave Ended taken before_taken count want a b buf sum low high fits is took end = (took, end is.1)
@@ -92,9 +93,11 @@ refilled old room after_front buf start end taken want count keep k before rest 
     let bytes_is : take size (drop start room) ≡ old.bytes = ap (λ (h : Held). h.bytes) view in
     let taken_is : taken ≡ old.taken = ap (λ (h : Held). h.taken) view in
     let size_is : size ≡ length old.bytes = omega (arith, ap length bytes_is, length-take size (drop start room), length-drop start room) in
-    let all = filled old after_front buf size count want k rest a b more (omega arith) short (front ∙ bytes_is) size_is (omega arith) long (omega arith) few (subst (λ (t : ℕ). RestIs (t + count) count want rest) taken_is is) took last in
+    let all = filled old after_front buf size count want k rest a b more (omega arith) short (front ∙ bytes_is) size_is
+    (omega arith) long (omega arith) few (subst (λ (t : ℕ). RestIs (t + count) count want rest) taken_is is) took last in
     let none : size + keep - 0 ≡ size + kept rest count = omega arith in
     subst (λ (h : Held). Refills old h (between a b)) (held_is none (sym keep_is) (sym taken_is)) all
   where
-    held_is : {m n p q : ℕ} → m ≡ n → p ≡ q → old.taken ≡ taken → held (take n (put_mid (end - start) k after_front buf)) (old.taken + p) rest ≡ held (take m (drop 0 (put_mid (end - start) k after_front buf))) (taken + q) rest
+    held_is : {m n p q : ℕ} → m ≡ n → p ≡ q → old.taken ≡ taken
+        → held (take n (put_mid (end - start) k after_front buf)) (old.taken + p) rest ≡ held (take m (drop 0 (put_mid (end - start) k after_front buf))) (taken + q) rest
     held_is e f t = cc

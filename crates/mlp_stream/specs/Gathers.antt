@@ -13,4 +13,5 @@ pub record Gathers (output : Side) (old out new : List ℕ) : Type 0 where
 
 -- a write failed behind some of these bytes
 abbrev pub IsWriteStop : Side → List ℕ → Stop → Type 0
-IsWriteStop output bytes stop = (stop ≡ WriteFault) × ((n : ℕ) × Appends output.before output.behind (take n bytes))
+IsWriteStop output bytes stop =
+    (stop ≡ WriteFault) × ((n : ℕ) × Appends output.before output.behind (take n bytes))

@@ -32,7 +32,8 @@ is_write_fault (Err TooLong) = false
 abbrev pub IsInputStop : Held → Side → Side → List ℕ → Stop → Type 0
 IsInputStop window input output gathered (Refused r) = ⊥
 IsInputStop window input output gathered ReadFault = Fails window input × Appends output.before output.behind gathered
-IsInputStop window input output gathered WriteFault = (input.behind ≡ input.before) × IsWriteStop output gathered WriteFault
+IsInputStop window input output gathered WriteFault =
+    (input.behind ≡ input.before) × IsWriteStop output gathered WriteFault
 IsInputStop window input output gathered TooLong = ⊥
 
 -- the next unit is refused, or past the limit it isn't all there
@@ -78,8 +79,8 @@ module _ {S : Type 0} (step : S → Bool → List ℕ → Move S) (last : S → 
   Says input taken put t (Err WriteFault) = IfSome input.before (λ all. IsPrefix put (answer_to all).output)
   Says input taken put t (Err TooLong) = IsAnswer input.before (Err TooLong) put
 
-  -- the input lost the bytes taken, no more than one past the limit, and the output gained those put, which are what the
-  -- session makes of the input
+  -- the input lost the bytes taken, no more than one past the limit, and the output gained those put, which are what
+  -- the session makes of the input
   pub record Pumped (t : S) (input output : Side) (result : Result Unit Stop) : Type 0 where
     pub taken : List ℕ
     pub put : List ℕ

@@ -23,8 +23,8 @@ pub trait Session {
         requires { 0 < length next.now }
         ensures { IsTrue result ↔ (step self.now false next.now ≡ Move.Waits) };
 
-    /// Takes the next unit, of whose bytes `next` has all or as many as are left, replaces `out` by what comes of it, and
-    /// says how many bytes it took.
+    /// Takes the next unit, of whose bytes `next` has all or as many as are left, replaces `out` by what comes of it,
+    /// and says how many bytes it took.
     ///
     /// # Errors
     ///

@@ -95,8 +95,8 @@ fn take_more<S: Source, K: Sink>(
 ///
 /// # Errors
 ///
-/// [`Stop::Refused`] with the session's refusal; [`Stop::ReadFault`] and [`Stop::WriteFault`] where a read or a write fails;
-/// [`Stop::TooLong`] where the input passes the limit and up to there the session refuses nothing.
+/// [`Stop::Refused`] with the session's refusal; [`Stop::ReadFault`] and [`Stop::WriteFault`] where a read or a write
+/// fails; [`Stop::TooLong`] where the input passes the limit and up to there the session refuses nothing.
 pub fn pump<S: Source, K: Sink, N: Session>(
     session: &mut N,
     taken: u64,

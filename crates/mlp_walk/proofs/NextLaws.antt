@@ -101,7 +101,8 @@ module _ {L O C : Type 0} (f : Format L O C) (is : IsFormat f) where
     pub fails : UnitFails f left (bits_of bytes) (in_unit fault)
     pub number_is : fault.unit ≡ number
 
-  fault_by : (number : ℕ) (left : L) (bytes : List ℕ) (r : Result (UnitOf O C × ℕ) UnitFault) → ReadUnit left bytes ≡ r → (fault : Fault) → numbered f number r ≡ err_of (refused.Fault fault) → FromFault number left bytes fault
+  fault_by : (number : ℕ) (left : L) (bytes : List ℕ) (r : Result (UnitOf O C × ℕ) UnitFault) → ReadUnit left bytes ≡ r
+      → (fault : Fault) → numbered f number r ≡ err_of (refused.Fault fault) → FromFault number left bytes fault
   fault_by number left bytes (Ok u) e fault same = absurd cc
   fault_by number left bytes (Err d) e fault same =
       let it : fault_of number d ≡ fault = refused_fault _ _ (err_is _ _ same) in
@@ -125,7 +126,8 @@ module _ {L O C : Type 0} (f : Format L O C) (is : IsFormat f) where
       let fails : OuterFails f left (bits_of bytes) (in_unit (fault_of number (outer_fault b))) = (refl, outer_fails_at left bytes b e) in
       inl (subst (λ (d : Fault). OuterFails f left (bits_of bytes) (in_unit d)) it fails)
 
-  told_by : (number : ℕ) (left : L) (bytes : List ℕ) (k : ℕ) (t : Taken O C) (o : Read O) → (f.outer left).read (bits_of bytes) 0 ≡ o → Tells k o → numbered f number (ReadUnit left bytes) ≡ ok_of t → Exists f left k (bits_of bytes)
+  told_by : (number : ℕ) (left : L) (bytes : List ℕ) (k : ℕ) (t : Taken O C) (o : Read O) → (f.outer left).read (bits_of bytes) 0 ≡ o
+      → Tells k o → numbered f number (ReadUnit left bytes) ≡ ok_of t → Exists f left k (bits_of bytes)
   told_by number left bytes k t (Ok x) e tells same = (f.presentations x.0, (x.0, outer_at left bytes x e, refl), tells)
   told_by number left bytes k t (Err b) e tells same = absurd (err_ok (sym (outer_err number left bytes b e) ∙ same))
     where

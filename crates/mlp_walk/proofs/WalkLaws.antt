@@ -212,7 +212,8 @@ module _ {L O C : Type 0} (f : Format L O C) (is : IsFormat f) (start : L) where
   unit_next wanted bytes us rest more u h k =
       first_next (left_after f start us) (bits_of rest) u [] (bits_of more) (begins_behind start (bits_of bytes) us (u ∷ []) (bits_of rest) (bits_of more) k.begins h.begins)
 
-  pub next_there : (wanted : Option ℕ) (bytes : List ℕ) (us : List (UnitOf O C)) (rest : List ℕ) (u : UnitOf O C) → HasTaken f start wanted bytes us rest → Told f start wanted bytes → IsNext f (left_after f start us) (bits_of rest) u
+  pub next_there : (wanted : Option ℕ) (bytes : List ℕ) (us : List (UnitOf O C)) (rest : List ℕ) (u : UnitOf O C)
+      → HasTaken f start wanted bytes us rest → Told f start wanted bytes → IsNext f (left_after f start us) (bits_of rest) u
       → next_of f wanted (length us) (left_after f start us) rest ≡ Ok (record { size = length (spelling_of f (left_after f start us) u) / 8; unit = u })
   next_there wanted bytes us rest u h told next = next_found f is wanted (length us) (left_after f start us) rest u next (enough wanted bytes us rest h.begins told).none
 
@@ -264,7 +265,8 @@ module _ {L O C : Type 0} (f : Format L O C) (is : IsFormat f) (start : L) where
       ∙ ap (λ (e : Fault). Err (refused.Fault e)) (fault_is fault (length us) n)
 
   -- behind a unit bytes are left then
-  pub fault_begun : (wanted : Option ℕ) (bytes : List ℕ) (us : List (UnitOf O C)) (rest : List ℕ) (fault : Fault) → HasTaken f start wanted bytes us rest → length us ≡ fault.unit → Fail f start wanted bytes fault → us ≢ [] → rest ≢ []
+  pub fault_begun : (wanted : Option ℕ) (bytes : List ℕ) (us : List (UnitOf O C)) (rest : List ℕ) (fault : Fault)
+      → HasTaken f start wanted bytes us rest → length us ≡ fault.unit → Fail f start wanted bytes fault → us ≢ [] → rest ≢ []
   fault_begun wanted bytes us rest fault h n d some e = (fails_here wanted bytes us rest fault h n (units_fault wanted bytes fault d)).begun some (ap bits_of e ∙ no_bits)
 
   -- the presentation isn't there

@@ -34,7 +34,8 @@ module _ {L O C : Type 0} (f : Format L O C) (start : L) where
     pub there : us ≢ [] → Told wanted bytes
 
   -- by what comes of the next unit behind these
-  abbrev pub Means : Option ℕ → List ℕ → List (UnitOf O C) → List ℕ → Result (Taken O C) Refusal → Type 0
+  abbrev pub Means : Option ℕ → List ℕ → List (UnitOf O C)
+      → List ℕ → Result (Taken O C) Refusal → Type 0
   Means wanted bytes us rest (Ok t) = HasTaken wanted bytes (us ++ t.unit ∷ []) (drop t.size rest)
   Means wanted bytes us rest (Err (refused.Fault fault)) = Fail wanted bytes fault
   Means wanted bytes us rest (Err (refused.NoPresentation have)) = (us ≡ []) × Lack wanted bytes have
@@ -61,8 +62,10 @@ module _ {L O C : Type 0} (f : Format L O C) (start : L) where
   -- these
   pub record IsOneWalk (wanted : Option ℕ) (bytes : List ℕ) : Type 0 where
     pub some : HasSome wanted bytes
-    pub not_units_and_fault : (us : List (UnitOf O C)) (e : Fault) → AreUnits wanted bytes us → Fail wanted bytes e → ⊥
-    pub not_units_and_lack : (us : List (UnitOf O C)) (have : ℕ) → AreUnits wanted bytes us → Lack wanted bytes have → ⊥
+    pub not_units_and_fault : (us : List (UnitOf O C)) (e : Fault)
+        → AreUnits wanted bytes us → Fail wanted bytes e → ⊥
+    pub not_units_and_lack : (us : List (UnitOf O C)) (have : ℕ)
+        → AreUnits wanted bytes us → Lack wanted bytes have → ⊥
     pub not_fault_and_lack : (fault : Fault) (have : ℕ) → Fail wanted bytes fault → Lack wanted bytes have → ⊥
     pub one_list : (us vs : List (UnitOf O C)) → AreUnits wanted bytes us → AreUnits wanted bytes vs → us ≡ vs
     pub one_fault : (d e : Fault) → Fail wanted bytes d → Fail wanted bytes e → d ≡ e

@@ -43,4 +43,5 @@ module _ {L O C : Type 0} (f : Format L O C) where
 
   -- a unit has whole bytes
   pub record TakesBytes : Type 0 where
-    pub whole : (left : L) (o : O) → (f.outer left).Fits o → (n : ℕ) × (length ((f.outer left).spelling o) ≡ 8 * n)
+    pub whole : (left : L) (o : O) → (f.outer left).Fits o
+        → (n : ℕ) × (length ((f.outer left).spelling o) ≡ 8 * n)

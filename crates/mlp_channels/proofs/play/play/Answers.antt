@@ -12,7 +12,8 @@ use Rattle.mlp_channels.proofs.UnitLaws.{unit_played, unit_leaves}
 use Rattle.mlp_channels.proofs.play.play.Goals as goal
 
 -- the same of the segment's own blocks and codes
-of_segment : (place : Place) (force : Option State) (s : Segment) (heads : List BlockHead) (codes : List FrameCode) (before start after : List Past) (old new : List (List ℤ)) → heads ≡ s.blocks.items → codes ≡ s.codes.items → before ≡ start
+of_segment : (place : Place) (force : Option State) (s : Segment) (heads : List BlockHead) (codes : List FrameCode) (before start after : List Past) (old new : List (List ℤ))
+    → heads ≡ s.blocks.items → codes ≡ s.codes.items → before ≡ start
     → HasPlayedBlocks place force heads codes (length codes) before after old new → HasPlayedBlocks place force s.blocks.items s.codes.items (length s.codes.items) start after old new
 of_segment place force s heads codes before start after old new a b d h =
     subst (λ (hs : List BlockHead). HasPlayedBlocks place force hs s.codes.items (length s.codes.items) start after old new) a

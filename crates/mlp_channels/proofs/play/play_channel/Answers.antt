@@ -11,7 +11,8 @@ scatter-requires-clause-channel c = let f = in_force c.args.state.now c.args.cha
 pub returns-clause-channel : goal.returns-clause-channel
 returns-clause-channel c =
     let f = in_force c.args.state.now c.args.channel c.requires.state c.requires.codes.steps c.requires.coded in
-    let wide = λ (k : ℕ) (d : List ℤ) (l : k < length c.args.frames.now). subst (λ (frame : List ℤ). c.args.channel < length frame) (get_or_default c.args.frames.now k [] d l) (let ten = c.told-frames k l in omega (arith, ten, f.most)) in
+    let wide = λ (k : ℕ) (d : List ℤ) (l : k < length c.args.frames.now).
+    subst (λ (frame : List ℤ). c.args.channel < length frame) (get_or_default c.args.frames.now k [] d l) (let ten = c.told-frames k l in omega (arith, ten, f.most)) in
     ap (λ (fs : List (List ℤ)). column c.args.channel fs) c.scatter.ensures
     ∙ column-with_column c.args.channel c.restore.new.block c.args.frames.now (omega (arith, c.requires.count, c.requires.frames, c.restore.auto.block)) wide
     ∙ c.restore.ensures.outputs

@@ -19,8 +19,13 @@ returns-then-is_some-clause-ok g c =
     let z = c.read_u32-size.ensures ∙ ap (little_number 4) (take_rest c.args.head.now 4) in
     let w : c.from.result + c.from-2.result ≡ padded (number_at 4 4 c.args.head.now) = omega (arith, z, c.from.ensures, c.from-2.ensures, ap (λ n. n % 2) z) in
     let e = c.in-Ok.ensures.ok in
-    let l = length-append c.content.new.buf e.2 in
-    (c.content.new.buf ++ e.2, e.3, omega (arith, l, e.0, e.4), e.1, λ n rest. chunk_other n c.args.seen c.args.head.now (c.content.new.buf ++ e.2) rest c.requires.other (omega (arith, l, e.4, w)) (some_is c.args.seen _ c.if-is_some.ensures))
+    let l = length-append c.content.new.buf e.2 in (
+      c.content.new.buf ++ e.2,
+      e.3,
+      omega (arith, l, e.0, e.4),
+      e.1,
+      λ n rest. chunk_other n c.args.seen c.args.head.now (c.content.new.buf ++ e.2) rest c.requires.other (omega (arith, l, e.4, w)) (some_is c.args.seen _ c.if-is_some.ensures),
+    )
 
 pub returns-then-not-starts_with-clause-ok : goal.returns-then-not-starts_with-clause-ok
 returns-then-not-starts_with-clause-ok g c =
@@ -50,7 +55,8 @@ returns-in-Ok-judge-clause-ok g c =
       omega (arith, l, e.0, e.4),
       e.1,
       λ n rest. subst (λ s. chunk (chunks n) s c.args.head.now ((c.content.new.buf ++ e.2) ++ rest) ≡ chunks n (Some c.in-Ok-judge.format) rest) (sym none)
-          (fmt_right n c.args.head.now c.content.new.buf e.2 rest c.in-Ok-judge.format c.requires.other (omega (arith, same, c.min-count.ensures, w)) (omega (arith, e.4, w)) (sym c.starts_with.ensures.value ∙ c.if-not-starts_with.false) j),
+          (fmt_right n c.args.head.now c.content.new.buf e.2 rest c.in-Ok-judge.format c.requires.other
+          (omega (arith, same, c.min-count.ensures, w)) (omega (arith, e.4, w)) (sym c.starts_with.ensures.value ∙ c.if-not-starts_with.false) j),
     )
 
 pub returns-in-Err-judge-clause-err : goal.returns-in-Err-judge-clause-err

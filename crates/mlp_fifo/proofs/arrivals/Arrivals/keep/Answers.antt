@@ -6,7 +6,8 @@ use Rattle.mlp_fifo.proofs.Keeps.{kept_length, held_pushed}
 use Rattle.mlp_fifo.proofs.arrivals.Arrivals.keep.Goals as goal
 
 -- the buffer holds as many as it is to keep
-items_are : (new : Buffer ℕ) (old : Buffer ℕ) (bytes : ℕ) → old.capacity ≡ 91 → new ≡ record { items = keep_last old.capacity (old.items ++ bytes ∷ []); capacity = old.capacity } → new.items ≡ keep_last 91 (old.items ++ bytes ∷ [])
+items_are : (new : Buffer ℕ) (old : Buffer ℕ) (bytes : ℕ) → old.capacity ≡ 91
+    → new ≡ record { items = keep_last old.capacity (old.items ++ bytes ∷ []); capacity = old.capacity } → new.items ≡ keep_last 91 (old.items ++ bytes ∷ [])
 items_are new old bytes e f = ap (λ b. b.items) f ∙ ap (λ n. keep_last n (old.items ++ bytes ∷ [])) e
 
 pub invariant_of-self-clause-kept : goal.invariant_of-self-clause-kept

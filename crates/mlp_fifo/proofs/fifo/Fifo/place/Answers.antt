@@ -18,7 +18,8 @@ pub returns-then-output-finish-clause-is : goal.returns-then-output-finish-claus
 returns-then-output-finish-clause-is c =
     let a = c.self.inside.arrivals in
     sym (ap (λ o. placed o c.args.bytes) c.self.view_is)
-    ∙ placed_late (left_by a) c.args.bytes (omega (arith, c.output.ensures.is, c.duration.ensures.is, c.if-output-finish.true, c.next-begin.ensures.is, ap (λ p. out_of p a.count) a.pace_is, ap (λ p. duration_of p c.args.bytes) a.pace_is))
+    ∙ placed_late (left_by a) c.args.bytes
+    (omega (arith, c.output.ensures.is, c.duration.ensures.is, c.if-output-finish.true, c.next-begin.ensures.is, ap (λ p. out_of p a.count) a.pace_is, ap (λ p. duration_of p c.args.bytes) a.pace_is))
 
 pub returns-then-output-finish-clause-none : goal.returns-then-output-finish-clause-none
 returns-then-output-finish-clause-none c kind rate lengths h = late_means kind rate lengths _ c.args.bytes _ h (returns-then-output-finish-clause-is c)
