@@ -85,16 +85,20 @@ place_in n x c h = ap (λ b. cond b (at x c) (pos 0)) (lt-ltb c n h)
 
 -- ---- sums of rows
 
-dot_left6 : (z0 z1 c2 c3 c4 c5 a b : ℤ) (more : List ℤ) → dot (weights (row 0 14 false (left (negsuc 11584)))) (z0 ∷ z1 ∷ c2 ∷ c3 ∷ c4 ∷ c5 ∷ a ∷ b ∷ more) ≡ pos 16384 *ℤ z0 +ℤ (negsuc 11584 *ℤ c2 +ℤ negsuc 11584 *ℤ c4)
+dot_left6 : (z0 z1 c2 c3 c4 c5 a b : ℤ) (more : List ℤ)
+    → dot (weights (row 0 14 false (left (negsuc 11584)))) (z0 ∷ z1 ∷ c2 ∷ c3 ∷ c4 ∷ c5 ∷ a ∷ b ∷ more) ≡ pos 16384 *ℤ z0 +ℤ (negsuc 11584 *ℤ c2 +ℤ negsuc 11584 *ℤ c4)
 dot_left6 z0 z1 c2 c3 c4 c5 a b more = omega (arith, ints)
 
-dot_right6 : (z0 z1 c2 c3 c4 c5 a b : ℤ) (more : List ℤ) → dot (weights (row 1 14 false (right (negsuc 11584)))) (z0 ∷ z1 ∷ c2 ∷ c3 ∷ c4 ∷ c5 ∷ a ∷ b ∷ more) ≡ pos 16384 *ℤ z1 +ℤ (negsuc 11584 *ℤ c2 +ℤ negsuc 11584 *ℤ c5)
+dot_right6 : (z0 z1 c2 c3 c4 c5 a b : ℤ) (more : List ℤ)
+    → dot (weights (row 1 14 false (right (negsuc 11584)))) (z0 ∷ z1 ∷ c2 ∷ c3 ∷ c4 ∷ c5 ∷ a ∷ b ∷ more) ≡ pos 16384 *ℤ z1 +ℤ (negsuc 11584 *ℤ c2 +ℤ negsuc 11584 *ℤ c5)
 dot_right6 z0 z1 c2 c3 c4 c5 a b more = omega (arith, ints)
 
-dot_left8 : (z0 z1 c2 c3 c4 c5 a b : ℤ) (more : List ℤ) → dot (weights (row 0 14 false (left (negsuc 5792)))) (z0 ∷ z1 ∷ c2 ∷ c3 ∷ c4 ∷ c5 ∷ a ∷ b ∷ more) ≡ pos 16384 *ℤ z0 +ℤ (negsuc 11584 *ℤ c2 +ℤ negsuc 5792 *ℤ c4)
+dot_left8 : (z0 z1 c2 c3 c4 c5 a b : ℤ) (more : List ℤ)
+    → dot (weights (row 0 14 false (left (negsuc 5792)))) (z0 ∷ z1 ∷ c2 ∷ c3 ∷ c4 ∷ c5 ∷ a ∷ b ∷ more) ≡ pos 16384 *ℤ z0 +ℤ (negsuc 11584 *ℤ c2 +ℤ negsuc 5792 *ℤ c4)
 dot_left8 z0 z1 c2 c3 c4 c5 a b more = omega (arith, ints)
 
-dot_right8 : (z0 z1 c2 c3 c4 c5 a b : ℤ) (more : List ℤ) → dot (weights (row 1 14 false (right (negsuc 5792)))) (z0 ∷ z1 ∷ c2 ∷ c3 ∷ c4 ∷ c5 ∷ a ∷ b ∷ more) ≡ pos 16384 *ℤ z1 +ℤ (negsuc 11584 *ℤ c2 +ℤ negsuc 5792 *ℤ c5)
+dot_right8 : (z0 z1 c2 c3 c4 c5 a b : ℤ) (more : List ℤ)
+    → dot (weights (row 1 14 false (right (negsuc 5792)))) (z0 ∷ z1 ∷ c2 ∷ c3 ∷ c4 ∷ c5 ∷ a ∷ b ∷ more) ≡ pos 16384 *ℤ z1 +ℤ (negsuc 11584 *ℤ c2 +ℤ negsuc 5792 *ℤ c5)
 dot_right8 z0 z1 c2 c3 c4 c5 a b more = omega (arith, ints)
 
 dot_half4 : (z0 z1 c2 c3 c4 c5 a b : ℤ) (more : List ℤ) → dot (weights (row 4 14 false (on ((4, pos 8192) ∷ [])))) (z0 ∷ z1 ∷ c2 ∷ c3 ∷ c4 ∷ c5 ∷ a ∷ b ∷ more) ≡ pos 8192 *ℤ c4
@@ -138,7 +142,8 @@ lowered_bounds q v s l f a b = (
   omega (arith, ints, clear_le q (floor_by 14 s), lt_clear q (floor_by 14 s), floor_le s 16384 (omega arith), lt_floor s 16384 (omega arith), pow-lt {i = q} {j = 9} (omega arith), f.low, f.high, a, b),
 )
 
-stereo_kept : (q : ℕ) (v s d : ℤ) → q ≤ 8 → IsSample q v → neg_ℤ (pos 274877906944) ≤ℤ s → s ≤ℤ pos 274877906944 → d ≡ pos 6786 *ℤ lowered q v s → wrap (clear q (floor_by 14 d) +ℤ pos 0) ≡ stereo q (lowered q v s)
+stereo_kept : (q : ℕ) (v s d : ℤ) → q ≤ 8 → IsSample q v → neg_ℤ (pos 274877906944) ≤ℤ s → s ≤ℤ pos 274877906944
+    → d ≡ pos 6786 *ℤ lowered q v s → wrap (clear q (floor_by 14 d) +ℤ pos 0) ≡ stereo q (lowered q v s)
 stereo_kept q v s d l f a b e =
     let h = lowered_bounds q v s l f a b in
     kept (stereo q (lowered q v s)) (clear q (floor_by 14 d)) (stereo_fits q (lowered q v s) l h.0 h.1) (ap (λ z. clear q (floor_by 14 z)) e)
@@ -161,13 +166,16 @@ fold6_top q x a b more h =
     let z1 : ℤ = front6 q (at x 1) (at x 2) (at x 5) in
     let s0 : ℤ = negsuc 11584 *ℤ at x 2 +ℤ negsuc 11584 *ℤ at x 4 in
     let s1 : ℤ = negsuc 11584 *ℤ at x 2 +ℤ negsuc 11584 *ℤ at x 5 in
-    let e0 = raised_by q (at x 0) s0 (dot (weights (row 0 14 false (left (negsuc 11584)))) (z0 ∷ z1 ∷ at x 2 ∷ at x 3 ∷ at x 4 ∷ at x 5 ∷ a ∷ b ∷ more)) (h 0 (omega arith)) (dot_left6 z0 z1 (at x 2) (at x 3) (at x 4) (at x 5) a b more) in
+    let e0 = raised_by q (at x 0) s0 (dot (weights (row 0 14 false (left (negsuc 11584)))) (z0 ∷ z1 ∷ at x 2 ∷ at x 3 ∷ at x 4 ∷ at x 5 ∷ a ∷ b ∷ more))
+    (h 0 (omega arith)) (dot_left6 z0 z1 (at x 2) (at x 3) (at x 4) (at x 5) a b more) in
     let e1 = raised_by q (at x 1) s1 (dot (weights (row 1 14 false (right (negsuc 11584)))) (at x 0 ∷ z1 ∷ at x 2 ∷ at x 3 ∷ at x 4 ∷ at x 5 ∷ a ∷ b ∷ more)) (h 1 (omega arith))
     (dot_right6 (at x 0) z1 (at x 2) (at x 3) (at x 4) (at x 5) a b more) in
-    ap (λ (v : ℤ). v ∷ wrap (clear q (floor_by 14 (dot (weights (row 1 14 false (right (negsuc 11584)))) (v ∷ z1 ∷ at x 2 ∷ at x 3 ∷ at x 4 ∷ at x 5 ∷ a ∷ b ∷ more))) +ℤ pos 0) ∷ at x 2 ∷ at x 3 ∷ at x 4 ∷ at x 5 ∷ a ∷ b ∷ more) e0
+    ap (λ (v : ℤ). v ∷ wrap (clear q (floor_by 14 (dot (weights (row 1 14 false (right (negsuc 11584)))) (v ∷ z1 ∷ at x 2 ∷ at x 3 ∷ at x 4 ∷ at x 5 ∷ a ∷ b ∷ more))) +ℤ pos 0)
+    ∷ at x 2 ∷ at x 3 ∷ at x 4 ∷ at x 5 ∷ a ∷ b ∷ more) e0
     ∙ ap (λ (v : ℤ). at x 0 ∷ v ∷ at x 2 ∷ at x 3 ∷ at x 4 ∷ at x 5 ∷ a ∷ b ∷ more) e1
 
-stereo_top : (q : ℕ) (x0 x1 s0 s1 a b : ℤ) (more : List ℤ) (n : ℕ) → q ≤ 8 → IsSample q x0 → IsSample q x1 → neg_ℤ (pos 274877906944) ≤ℤ s0 → s0 ≤ℤ pos 274877906944 → neg_ℤ (pos 274877906944) ≤ℤ s1 → s1 ≤ℤ pos 274877906944 →
+stereo_top : (q : ℕ) (x0 x1 s0 s1 a b : ℤ) (more : List ℤ) (n : ℕ) → q ≤ 8 → IsSample q x0 → IsSample q x1
+    → neg_ℤ (pos 274877906944) ≤ℤ s0 → s0 ≤ℤ pos 274877906944 → neg_ℤ (pos 274877906944) ≤ℤ s1 → s1 ≤ℤ pos 274877906944 →
     applied (fold_rows 0 n) (steps_by 0 q) 0 (lowered q x0 s0 ∷ lowered q x1 s1 ∷ a ∷ b ∷ more) ≡ stereo q (lowered q x0 s0) ∷ stereo q (lowered q x1 s1) ∷ a ∷ b ∷ more
 stereo_top q x0 x1 s0 s1 a b more n l f g i j k m =
     let z0 : ℤ = lowered q x0 s0 in
@@ -191,7 +199,8 @@ fold8_middle q x a b more l h =
     let f2 : IsSample q (at x 5) = h 5 (omega arith) in
     let f3 : IsSample q (at x 7) = h 7 (omega arith) in
     let e0 = raised_by q (at x 0) s0 (dot (weights (row 0 14 false (left (negsuc 5792)))) (z0 ∷ z1 ∷ at x 2 ∷ at x 3 ∷ z4 ∷ z5 ∷ a ∷ b ∷ more)) (h 0 (omega arith)) (dot_left8 z0 z1 (at x 2) (at x 3) z4 z5 a b more) in
-    let e1 = raised_by q (at x 1) s1 (dot (weights (row 1 14 false (right (negsuc 5792)))) (at x 0 ∷ z1 ∷ at x 2 ∷ at x 3 ∷ z4 ∷ z5 ∷ a ∷ b ∷ more)) (h 1 (omega arith)) (dot_right8 (at x 0) z1 (at x 2) (at x 3) z4 z5 a b more) in
+    let e1 = raised_by q (at x 1) s1 (dot (weights (row 1 14 false (right (negsuc 5792)))) (at x 0 ∷ z1 ∷ at x 2 ∷ at x 3 ∷ z4 ∷ z5 ∷ a ∷ b ∷ more))
+    (h 1 (omega arith)) (dot_right8 (at x 0) z1 (at x 2) (at x 3) z4 z5 a b more) in
     let e4 = halved_kept q z4 (dot (weights (row 4 14 false (on ((4, pos 8192) ∷ [])))) (at x 0 ∷ at x 1 ∷ at x 2 ∷ at x 3 ∷ z4 ∷ z5 ∷ a ∷ b ∷ more)) l (omega (arith, ints, f0.low, f1.low))
     (omega (arith, ints, f0.high, f1.high)) (dot_half4 (at x 0) (at x 1) (at x 2) (at x 3) z4 z5 a b more) in
     let e5 = halved_kept q z5 (dot (weights (row 5 14 false (on ((5, pos 8192) ∷ [])))) (at x 0 ∷ at x 1 ∷ at x 2 ∷ at x 3 ∷ halved q z4 ∷ z5 ∷ a ∷ b ∷ more)) l (omega (arith, ints, f2.low, f3.low))
@@ -208,7 +217,8 @@ fold8_middle q x a b more l h =
     pos 0) ∷ wrap (clear q (floor_by 14 (dot (weights (row 5 14 false (on ((5, pos 8192) ∷ []))))
     (at x 0 ∷ v ∷ at x 2 ∷ at x 3 ∷ wrap (clear q (floor_by 14 (dot (weights (row 4 14 false (on ((4, pos 8192) ∷ [])))) (at x 0 ∷ v ∷ at x 2 ∷ at x 3 ∷ z4 ∷ z5 ∷ a ∷ b ∷ more))) +ℤ pos 0) ∷ z5 ∷
     a ∷ b ∷ more))) +ℤ pos 0) ∷ a ∷ b ∷ more) e1
-    ∙ ap (λ (v : ℤ). at x 0 ∷ at x 1 ∷ at x 2 ∷ at x 3 ∷ v ∷ wrap (clear q (floor_by 14 (dot (weights (row 5 14 false (on ((5, pos 8192) ∷ [])))) (at x 0 ∷ at x 1 ∷ at x 2 ∷ at x 3 ∷ v ∷ z5 ∷ a ∷ b ∷ more))) +ℤ pos 0) ∷ a ∷ b ∷ more) e4
+    ∙ ap (λ (v : ℤ). at x 0 ∷ at x 1 ∷ at x 2 ∷ at x 3 ∷ v
+    ∷ wrap (clear q (floor_by 14 (dot (weights (row 5 14 false (on ((5, pos 8192) ∷ [])))) (at x 0 ∷ at x 1 ∷ at x 2 ∷ at x 3 ∷ v ∷ z5 ∷ a ∷ b ∷ more))) +ℤ pos 0) ∷ a ∷ b ∷ more) e4
     ∙ ap (λ (v : ℤ). at x 0 ∷ at x 1 ∷ at x 2 ∷ at x 3 ∷ halved q (at x 4 +ℤ at x 6) ∷ v ∷ a ∷ b ∷ more) e5
 
 fold8_top : (q : ℕ) (x : List ℤ) (a b : ℤ) (more : List ℤ) → q ≤ 8 → ((c : ℕ) → c < 8 → IsSample q (at x c)) →
@@ -431,7 +441,8 @@ fold8_case q zero x a b more l h =
 fold8_case q (suc zero) x a b more l h = ap (take 6) (fold8_middle q x a b more l h)
 fold8_case q (suc (suc k)) x a b more l h = ap (take 8) (fold8_top q x a b more l h)
 
-fold_case : (q channels k : ℕ) (x : List ℤ) (a b : ℤ) (more : List ℤ) → q ≤ 8 → (6 ≤ channels) × (channels ≢ 6 → channels ≡ 8) → channels_of k ≤ channels → ((c : ℕ) → c < channels → IsSample q (at x c)) →
+fold_case : (q channels k : ℕ) (x : List ℤ) (a b : ℤ) (more : List ℤ) → q ≤ 8 → (6 ≤ channels) × (channels ≢ 6 → channels ≡ 8)
+    → channels_of k ≤ channels → ((c : ℕ) → c < channels → IsSample q (at x c)) →
     take (channels_of k) (applied (fold_rows k channels) (steps_by k q) 0 (take (channels_of k) (coded_of Fold q channels x) ++ a ∷ b ∷ more)) ≡ take (channels_of k) (presented_of Fold q channels k x)
 fold_case q channels k x a b more l shape n h =
     let P : ℕ → Type 0 = λ c. take (channels_of k) (applied (fold_rows k c) (steps_by k q) 0 (take (channels_of k) (coded_of Fold q c x) ++ a ∷ b ∷ more)) ≡ take (channels_of k) (presented_of Fold q c k x) in

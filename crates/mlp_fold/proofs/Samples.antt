@@ -37,7 +37,8 @@ halved_fits q z l a b =
     omega (arith, ints, clear_le q (floor_by 1 z), lt_clear q (floor_by 1 z), floor_le z 2 (omega arith), lt_floor z 2 (omega arith), pow-lt {i = q} {j = 9} (omega arith), a, b)
 
 -- what holds of eight values and of 0 holds at every place
-pub eight : (P : ℤ → Type 0) → P (pos 0) → (v0 v1 v2 v3 v4 v5 v6 v7 : ℤ) → P v0 → P v1 → P v2 → P v3 → P v4 → P v5 → P v6 → P v7 → (c : ℕ) → P (at (v0 ∷ v1 ∷ v2 ∷ v3 ∷ v4 ∷ v5 ∷ v6 ∷ v7 ∷ []) c)
+pub eight : (P : ℤ → Type 0) → P (pos 0) → (v0 v1 v2 v3 v4 v5 v6 v7 : ℤ) → P v0 → P v1 → P v2 → P v3
+    → P v4 → P v5 → P v6 → P v7 → (c : ℕ) → P (at (v0 ∷ v1 ∷ v2 ∷ v3 ∷ v4 ∷ v5 ∷ v6 ∷ v7 ∷ []) c)
 eight P z v0 v1 v2 v3 v4 v5 v6 v7 h0 h1 h2 h3 h4 h5 h6 h7 zero = h0
 eight P z v0 v1 v2 v3 v4 v5 v6 v7 h0 h1 h2 h3 h4 h5 h6 h7 (suc zero) = h1
 eight P z v0 v1 v2 v3 v4 v5 v6 v7 h0 h1 h2 h3 h4 h5 h6 h7 (suc (suc zero)) = h2

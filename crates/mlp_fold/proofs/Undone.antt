@@ -117,13 +117,15 @@ abbrev back4 : List MatrixRow
 back4 = row 4 14 false (on ((4, pos 16384) ∷ (6, negsuc 16383) ∷ [])) ∷ row 5 14 false (on ((5, pos 16384) ∷ (7, negsuc 16383) ∷ [])) ∷ []
 
 -- the sums of surround and back come first
-backs_undone : (q : ℕ) (x more : List ℤ) → AreSamples q 8 x → undone back4 (steps_by 2 q) (shown 8 x ++ more) ≡ at x 0 ∷ at x 1 ∷ at x 2 ∷ at x 3 ∷ (at x 4 +ℤ at x 6) ∷ (at x 5 +ℤ at x 7) ∷ at x 6 ∷ at x 7 ∷ more
+backs_undone : (q : ℕ) (x more : List ℤ) → AreSamples q 8 x
+    → undone back4 (steps_by 2 q) (shown 8 x ++ more) ≡ at x 0 ∷ at x 1 ∷ at x 2 ∷ at x 3 ∷ (at x 4 +ℤ at x 6) ∷ (at x 5 +ℤ at x 7) ∷ at x 6 ∷ at x 7 ∷ more
 backs_undone q x more h =
     let e5 = undone_plus q (at x 5) (at x 7) (dot (weights (row 5 14 false (on ((5, pos 16384) ∷ (7, negsuc 16383) ∷ []))))
     (at x 0 ∷ at x 1 ∷ at x 2 ∷ at x 3 ∷ at x 4 ∷ pos 0 ∷ at x 6 ∷ at x 7 ∷ more)) (h 5 (omega arith)) (h 7 (omega arith))
     (bare_back5 (at x 0) (at x 1) (at x 2) (at x 3) (at x 4) (at x 6) (at x 7) more) in
     let z5 : ℤ = at x 5 +ℤ at x 7 in
-    let e4 = undone_plus q (at x 4) (at x 6) (dot (weights (row 4 14 false (on ((4, pos 16384) ∷ (6, negsuc 16383) ∷ [])))) (at x 0 ∷ at x 1 ∷ at x 2 ∷ at x 3 ∷ pos 0 ∷ z5 ∷ at x 6 ∷ at x 7 ∷ more)) (h 4 (omega arith)) (h 6 (omega arith))
+    let e4 = undone_plus q (at x 4) (at x 6) (dot (weights (row 4 14 false (on ((4, pos 16384) ∷ (6, negsuc 16383) ∷ [])))) (at x 0 ∷ at x 1 ∷ at x 2 ∷ at x 3 ∷ pos 0 ∷ z5 ∷ at x 6 ∷ at x 7 ∷ more))
+    (h 4 (omega arith)) (h 6 (omega arith))
     (bare_back4 (at x 0) (at x 1) (at x 2) (at x 3) z5 (at x 6) (at x 7) more) in
     let last : undone (row 5 14 false (on ((5, pos 16384) ∷ (7, negsuc 16383) ∷ [])) ∷ []) (steps_by 2 q) (shown 8 x ++ more) ≡ at x 0 ∷ at x 1 ∷ at x 2 ∷ at x 3 ∷ at x 4 ∷ z5 ∷ at x 6 ∷ at x 7 ∷ more =
     ap (λ (v : ℤ). at x 0 ∷ at x 1 ∷ at x 2 ∷ at x 3 ∷ at x 4 ∷ v ∷ at x 6 ∷ at x 7 ∷ more) e5 in

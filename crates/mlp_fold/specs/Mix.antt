@@ -1,4 +1,5 @@
--- The mixes: what is coded of a frame of PCM, and what each presentation shows of it. Values are of 24 bits, with low q bits 0.
+-- The mixes: what is coded of a frame of PCM, and what each presentation shows of it. Values are of 24 bits,
+-- with low q bits 0.
 use Rattle.std.specs.Prelude.{◌≡◌, ℕ, zero, suc, ◌+◌, ◌*◌, ◌^◌, ◌<◌, ◌==◌, nat_lt, List, [], ◌∷◌, slice_index_or, ℤ, pos, neg_ℤ, ◌+ℤ◌, ◌-ℤ◌, ◌*ℤ◌, ◌≤ℤ◌, ◌<ℤ◌, cond, if◌then◌else◌}
 use Rattle.mlp_arith.specs.Words.{floor_by, clear}
 use Rattle.mlp_arith.specs.Ranges.{Is26}
@@ -31,7 +32,8 @@ abbrev pub place : ℕ → List ℤ → ℕ → ℤ
 place n frame c = cond (nat_lt c n) (at frame c) (pos 0)
 
 abbrev pub shown : ℕ → List ℤ → List ℤ
-shown n frame = place n frame 0 ∷ place n frame 1 ∷ place n frame 2 ∷ place n frame 3 ∷ place n frame 4 ∷ place n frame 5 ∷ place n frame 6 ∷ place n frame 7 ∷ []
+shown n frame = place n frame 0 ∷ place n frame 1 ∷ place n frame 2 ∷ place n frame 3
+    ∷ place n frame 4 ∷ place n frame 5 ∷ place n frame 6 ∷ place n frame 7 ∷ []
 
 -- ---- Fold: the front channels less a part of the others, over 2^14
 
@@ -50,7 +52,8 @@ abbrev pub stereo : ℕ → ℤ → ℤ
 stereo q z = clear q (floor_by 14 (pos 6786 *ℤ z))
 
 abbrev pub stereo_pair : ℕ → ℤ → ℤ → List ℤ
-stereo_pair q left right = stereo q left ∷ stereo q right ∷ pos 0 ∷ pos 0 ∷ pos 0 ∷ pos 0 ∷ pos 0 ∷ pos 0 ∷ []
+stereo_pair q left right =
+    stereo q left ∷ stereo q right ∷ pos 0 ∷ pos 0 ∷ pos 0 ∷ pos 0 ∷ pos 0 ∷ pos 0 ∷ []
 
 abbrev pub halved : ℕ → ℤ → ℤ
 halved q z = clear q (floor_by 1 z)
@@ -58,15 +61,18 @@ halved q z = clear q (floor_by 1 z)
 -- ---- what is coded
 
 abbrev pub coded_fold6 : ℕ → List ℤ → List ℤ
-coded_fold6 q x = front6 q (at x 0) (at x 2) (at x 4) ∷ front6 q (at x 1) (at x 2) (at x 5) ∷ at x 2 ∷ at x 3 ∷ at x 4 ∷ at x 5 ∷ pos 0 ∷ pos 0 ∷ []
+coded_fold6 q x = front6 q (at x 0) (at x 2) (at x 4) ∷ front6 q (at x 1) (at x 2) (at x 5)
+    ∷ at x 2 ∷ at x 3 ∷ at x 4 ∷ at x 5 ∷ pos 0 ∷ pos 0 ∷ []
 
 abbrev pub coded_fold8 : ℕ → List ℤ → List ℤ
 coded_fold8 q x =
-    front8 q (at x 0) (at x 2) (at x 4 +ℤ at x 6) ∷ front8 q (at x 1) (at x 2) (at x 5 +ℤ at x 7) ∷ at x 2 ∷ at x 3
+    front8 q (at x 0) (at x 2) (at x 4 +ℤ at x 6)
+    ∷ front8 q (at x 1) (at x 2) (at x 5 +ℤ at x 7) ∷ at x 2 ∷ at x 3
     ∷ (at x 4 +ℤ at x 6) ∷ (at x 5 +ℤ at x 7) ∷ at x 6 ∷ at x 7 ∷ []
 
 abbrev pub coded_bypass : List ℤ → List ℤ
-coded_bypass x = at x 0 ∷ at x 1 ∷ clear 1 (at x 2) ∷ clear 1 (at x 3) ∷ clear 1 (at x 4) ∷ clear 1 (at x 5) ∷ pos 0 ∷ pos 0 ∷ []
+coded_bypass x = at x 0 ∷ at x 1 ∷ clear 1 (at x 2) ∷ clear 1 (at x 3)
+    ∷ clear 1 (at x 4) ∷ clear 1 (at x 5) ∷ pos 0 ∷ pos 0 ∷ []
 
 abbrev pub coded_side : List ℤ → List ℤ
 coded_side x = at x 0 ∷ (at x 1 -ℤ at x 0) ∷ pos 0 ∷ pos 0 ∷ pos 0 ∷ pos 0 ∷ pos 0 ∷ pos 0 ∷ []
@@ -103,7 +109,8 @@ presented_fold6 q (suc k) x = shown 6 x
 abbrev pub presented_fold8 : ℕ → ℕ → List ℤ → List ℤ
 presented_fold8 q zero x =
     stereo_pair q (front8 q (at x 0) (at x 2) (at x 4 +ℤ at x 6)) (front8 q (at x 1) (at x 2) (at x 5 +ℤ at x 7))
-presented_fold8 q (suc zero) x = at x 0 ∷ at x 1 ∷ at x 2 ∷ at x 3 ∷ halved q (at x 4 +ℤ at x 6) ∷ halved q (at x 5 +ℤ at x 7) ∷ pos 0 ∷ pos 0 ∷ []
+presented_fold8 q (suc zero) x = at x 0 ∷ at x 1 ∷ at x 2 ∷ at x 3
+    ∷ halved q (at x 4 +ℤ at x 6) ∷ halved q (at x 5 +ℤ at x 7) ∷ pos 0 ∷ pos 0 ∷ []
 presented_fold8 q (suc (suc k)) x = shown 8 x
 
 abbrev pub presented_of : Mix → ℕ → ℕ → ℕ → List ℤ → List ℤ

@@ -5,7 +5,8 @@ use Rattle.mlp_fold.specs.declared.profile.Mix.{Mix}
 use Rattle.mlp_fold.specs.declared.profile.Mix.TheVariants.{Split, Fold, Bypass, Side}
 
 abbrev pub row : ℕ → ℕ → Bool → List (Option ℤ) → MatrixRow
-row dest frac bypass coeffs = record { dest = dest; frac = frac; bypass = bypass; coeffs = record { items = coeffs }; noise_shift = 0 }
+row dest frac bypass coeffs =
+    record { dest = dest; frac = frac; bypass = bypass; coeffs = record { items = coeffs }; noise_shift = 0 }
 
 -- coefficients on some sources, by number
 abbrev pub placed : List (Option ℤ) → List (ℕ × ℤ) → List (Option ℤ)
@@ -24,11 +25,13 @@ abbrev pub right : ℤ → List (Option ℤ)
 right surround = on ((1, pos 16384) ∷ (2, neg_ℤ (pos 11585)) ∷ (5, surround) ∷ [])
 
 abbrev pub fold_rows : ℕ → ℕ → List MatrixRow
-fold_rows zero channels = row 0 14 false (Some (pos 6786) ∷ None ∷ None ∷ None ∷ []) ∷ row 1 14 false (None ∷ Some (pos 6786) ∷ None ∷ None ∷ []) ∷ []
+fold_rows zero channels = row 0 14 false (Some (pos 6786) ∷ None ∷ None ∷ None ∷ [])
+    ∷ row 1 14 false (None ∷ Some (pos 6786) ∷ None ∷ None ∷ []) ∷ []
 fold_rows (suc zero) channels =
     if channels == 6
     then row 0 14 false (left (neg_ℤ (pos 11585))) ∷ row 1 14 false (right (neg_ℤ (pos 11585))) ∷ []
-    else row 0 14 false (left (neg_ℤ (pos 5793))) ∷ row 1 14 false (right (neg_ℤ (pos 5793))) ∷ row 4 14 false (on ((4, pos 8192) ∷ [])) ∷ row 5 14 false (on ((5, pos 8192) ∷ [])) ∷ []
+    else row 0 14 false (left (neg_ℤ (pos 5793))) ∷ row 1 14 false (right (neg_ℤ (pos 5793)))
+    ∷ row 4 14 false (on ((4, pos 8192) ∷ [])) ∷ row 5 14 false (on ((5, pos 8192) ∷ [])) ∷ []
 fold_rows (suc (suc k)) channels =
     row 0 14 false (left (neg_ℤ (pos 5793))) ∷ row 1 14 false (right (neg_ℤ (pos 5793)))
     ∷ row 4 14 false (on ((4, pos 16384) ∷ (6, neg_ℤ (pos 16384)) ∷ []))
@@ -36,7 +39,8 @@ fold_rows (suc (suc k)) channels =
 
 abbrev pub bypass_rows : ℕ → List MatrixRow
 bypass_rows zero = []
-bypass_rows (suc k) = row 2 0 true (on ((2, pos 1) ∷ [])) ∷ row 3 0 true (on ((3, pos 1) ∷ [])) ∷ row 4 0 true (on ((4, pos 1) ∷ [])) ∷ row 5 0 true (on ((5, pos 1) ∷ [])) ∷ []
+bypass_rows (suc k) = row 2 0 true (on ((2, pos 1) ∷ [])) ∷ row 3 0 true (on ((3, pos 1) ∷ []))
+    ∷ row 4 0 true (on ((4, pos 1) ∷ [])) ∷ row 5 0 true (on ((5, pos 1) ∷ [])) ∷ []
 
 abbrev pub side_row : MatrixRow
 side_row = row 1 0 false (Some (pos 1) ∷ Some (pos 1) ∷ None ∷ None ∷ [])

@@ -26,12 +26,14 @@ last_channel k = channels_of k - 1
 -- .. of each one of each profile that passes, by mix, depth, channels and substream
 abbrev pub EachSubstream : (Mix → ℕ → ℕ → ℕ → Type 0) → Type 0
 EachSubstream P =
-    (mix : Mix) (depth channels k : ℕ) → AreMixed mix depth channels → channels_of k ≤ channels → P mix depth channels k
+    (mix : Mix) (depth channels k : ℕ) → AreMixed mix depth channels
+    → channels_of k ≤ channels → P mix depth channels k
 
 -- .. of the top one, which has all channels
 abbrev pub EachTop : (Mix → ℕ → ℕ → ℕ → Type 0) → Type 0
 EachTop P =
-    (mix : Mix) (depth channels k : ℕ) → AreMixed mix depth channels → channels_of k ≡ channels → P mix depth channels k
+    (mix : Mix) (depth channels k : ℕ) → AreMixed mix depth channels
+    → channels_of k ≡ channels → P mix depth channels k
 
 -- its rows and steps can be applied to its channels
 abbrev pub CanApply : Mix → ℕ → ℕ → ℕ → Type 0
@@ -62,4 +64,5 @@ PresentsAll mix depth channels k =
 -- each value that its presentation shows has 24 signed bits
 abbrev pub Presents24 : Mix → ℕ → ℕ → ℕ → Type 0
 Presents24 mix depth channels k =
-    (frame : List ℤ) (c : ℕ) → AreSamples (24 - depth) channels frame → Is24 (at (presented_of mix (24 - depth) channels k frame) c)
+    (frame : List ℤ) (c : ℕ) → AreSamples (24 - depth) channels frame
+    → Is24 (at (presented_of mix (24 - depth) channels k frame) c)

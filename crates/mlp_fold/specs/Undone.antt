@@ -28,4 +28,5 @@ UndoesToCoded mix depth channels k =
 abbrev pub UndoesToBits : Mix → ℕ → ℕ → ℕ → Type 0
 UndoesToBits mix depth channels k =
     (frame more : List ℤ) → AreSamples (24 - depth) channels frame →
-    undone_bits (rows_of mix k channels) (steps_of mix (24 - depth) k) (shown channels frame ++ more) ≡ bypass_of mix frame
+    undone_bits (rows_of mix k channels) (steps_of mix (24 - depth) k) (shown channels frame ++ more)
+    ≡ bypass_of mix frame

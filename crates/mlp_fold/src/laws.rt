@@ -30,8 +30,8 @@ pub fn law_mixes()
     ensures { EachSubstream MakesPresented }
 {}
 
-/// What is coded of a frame of PCM, and its bypassed bits, are what undoing the rows of the top substream, from the last
-/// to the first, makes of it.
+/// What is coded of a frame of PCM, and its bypassed bits, are what undoing the rows of the top substream, from the
+/// last to the first, makes of it.
 pub fn law_undone()
     ensures values { EachTop UndoesToCoded }
     ensures bits { EachTop UndoesToBits }
