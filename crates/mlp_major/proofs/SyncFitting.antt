@@ -30,7 +30,8 @@ empty_fits true empty [] long-is some is = (λ t. absurd cc, λ fits. absurd fit
 empty_fits true empty (b ∷ bs) long-is some is = absurd (omega (arith, eqb-true (length (b ∷ bs)) 0 (sym is ∙ some)))
 
 -- where one is told of
-pub fits_with : (long empty : Bool) (bytes : List ℕ) → Small bytes → long ≡ true → empty ≡ false → empty ≡ eqb (length bytes) 0 → IsTrue (eqb (length bytes) (2 + 2 * (get_or bytes 0 0 / 16))) ↔ (extension long).Fits bytes
+pub fits_with : (long empty : Bool) (bytes : List ℕ) → Small bytes → long ≡ true → empty ≡ false → empty ≡ eqb (length bytes) 0
+    → IsTrue (eqb (length bytes) (2 + 2 * (get_or bytes 0 0 / 16))) ↔ (extension long).Fits bytes
 unfolding extension chosen item number_of
 fits_with false empty bytes small long-is some is = absurd cc
 fits_with true empty [] small long-is some is = absurd cc

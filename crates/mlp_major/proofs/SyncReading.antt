@@ -74,14 +74,16 @@ fields_short all p e h = rw h refl
 
 -- ---- as the code reads
 
-module _ (bytes : List ℕ) (r : Cursor) (same : r.all ≡ bits_of bytes) (aligned : r.place % 8 ≡ 0) (inside : r.place ≤ length r.all) (s : SignedSync) (b : Cursor) (h : fields.read r.all r.place ≡ Ok (s, b.place)) (kept : b.all ≡ r.all) where
+module _ (bytes : List ℕ) (r : Cursor) (same : r.all ≡ bits_of bytes) (aligned : r.place % 8 ≡ 0) (inside : r.place ≤ length r.all)
+    (s : SignedSync) (b : Cursor) (h : fields.read r.all r.place ≡ Ok (s, b.place)) (kept : b.all ≡ r.all) where
   pub code_fields : Fields bytes r.place s b.place
   code_fields = fields_read bytes r.place s b.place aligned (subst (λ (all : List Bool). r.place ≤ length all) same inside) (subst (λ (all : List Bool). fields.read all r.place ≡ Ok (s, b.place)) same h)
 
   pub code_short : (e : Broken) → (number_of 16).read b.all b.place ≡ Err e → checked_sync.read r.all r.place ≡ Err (broken rule.MajorCrc r.place)
   code_short e k = check_short r.all r.place s b.place h e (subst (λ (all : List Bool). (number_of 16).read all b.place ≡ Err e) kept k)
 
-  pub code_bad : (n m : ℕ) → (number_of 16).read b.all b.place ≡ Ok (n, m) → (n ≡ check16_of (take (b.place / 8 - r.place / 8) (drop (r.place / 8) bytes)) → ⊥) → checked_sync.read r.all r.place ≡ Err (broken rule.MajorCrc r.place)
+  pub code_bad : (n m : ℕ) → (number_of 16).read b.all b.place ≡ Ok (n, m) → (n ≡ check16_of (take (b.place / 8 - r.place / 8) (drop (r.place / 8) bytes)) → ⊥)
+      → checked_sync.read r.all r.place ≡ Err (broken rule.MajorCrc r.place)
   code_bad n m k differ = check_bad r.all r.place s b.place h n m (subst (λ (all : List Bool). (number_of 16).read all b.place ≡ Ok (n, m)) kept k) (λ e. differ (e ∙ code_fields.check))
 
   pub code_good : (n m : ℕ) → (number_of 16).read b.all b.place ≡ Ok (n, m) → n ≡ check16_of (take (b.place / 8 - r.place / 8) (drop (r.place / 8) bytes)) → checked_sync.read r.all r.place ≡ Ok (s, m)

@@ -23,7 +23,14 @@ fbb =
     part (number_of 4) (λ f. f.rate2) (λ rate2.
     part (number_of 11) (λ f. f.carried) (λ carried.
     part (number_of 5) (λ f. f.arrangement) (λ arrangement.
-    made (record { quant1 = quant1; quant2 = quant2; rate1 = rate1; rate2 = rate2; carried = carried; arrangement = arrangement })))))))
+    made (record {
+      quant1 = quant1;
+      quant2 = quant2;
+      rate1 = rate1;
+      rate2 = rate2;
+      carried = carried;
+      arrangement = arrangement;
+    })))))))
 
 unfoldable pub fba : Layout FormatFba
 fba =
@@ -34,7 +41,15 @@ fba =
     part (number_of 5) (λ f. f.assign6) (λ assign6.
     part (number_of 2) (λ f. f.mod8) (λ mod8.
     part (number_of 13) (λ f. f.assign8) (λ assign8.
-    made (record { rate = rate; carried = carried; mod2 = mod2; mod6 = mod6; assign6 = assign6; mod8 = mod8; assign8 = assign8 }))))))))
+    made (record {
+      rate = rate;
+      carried = carried;
+      mod2 = mod2;
+      mod6 = mod6;
+      assign6 = assign6;
+      mod8 = mod8;
+      assign8 = assign8;
+    }))))))))
 
 abbrev pub fbb_of : FormatInfo → Option FormatFbb
 fbb_of (format.Fbb f) = Some f
@@ -218,10 +233,11 @@ judged_sync first =
 unfoldable pub major_sync : Option MajorSync → Layout MajorSync
 major_sync first = opening 32 rule.SyncKind (is_same_kind first) (judged_sync first)
 
--- ---- what an extraction makes of a major sync is one that fits, that later units can rely on and that keeps the rules,
--- where the whole one is
+-- ---- what an extraction makes of a major sync is one that fits, that later units can rely on and that keeps the
+-- rules, where the whole one is
 
 pub record NarrowsWell (k : ℕ) (m : MajorSync) : Type 0 where
   pub fits : (major_sync None).Fits m → (major_sync None).Fits (smaller k m)
   pub usable : IsUsable m → IsUsable (smaller k m)
-  pub rules : (first : Option MajorSync) → KeepsRules first m → KeepsRules (option_map (smaller k) first) (smaller k m)
+  pub rules : (first : Option MajorSync) → KeepsRules first m
+      → KeepsRules (option_map (smaller k) first) (smaller k m)

@@ -5,8 +5,8 @@ ghost use Rattle.mlp_major.specs.MajorSync.{smaller};
 use arrayvec::ArrayVec;
 use mlp_syntax::MajorSync;
 
-/// The major sync of the stream that an extraction of `presentation`, 0 to 2, makes: it tells of one substream more than
-/// that number, and the highest bit of its substream info is cleared. Its check is made where it is written.
+/// The major sync of the stream that an extraction of `presentation`, 0 to 2, makes: it tells of one substream more
+/// than that number, and the highest bit of its substream info is cleared. Its check is made where it is written.
 pub fn narrow(major: &MajorSync, presentation: u8) -> MajorSync
     requires { presentation ≤ 2 }
     ensures { result ≡ smaller presentation major.now }

@@ -62,13 +62,14 @@ fn is_long(major: &MajorSync) -> bool
 }
 
 fn numbers_fit(major: &MajorSync) -> bool
-    ensures { IsTrue result ↔ ((major.now.peak < 32768) × (major.now.substreams < 16) × (major.now.carried < 4) × (major.now.extended < 4)) }
+    ensures { IsTrue result ↔ ((major.now.peak < 32768) × (major.now.substreams < 16)
+        × (major.now.carried < 4) × (major.now.extended < 4)) }
 {
     major.peak < 32768 && major.substreams < 16 && major.carried < 4 && major.extended < 4
 }
 
-/// Whether a major sync can be written: each field has no more bits than its width, and an extension is there exactly where
-/// the last bit of channel meaning tells of one in TrueHD, and is as long as its first byte says.
+/// Whether a major sync can be written: each field has no more bits than its width, and an extension is there exactly
+/// where the last bit of channel meaning tells of one in TrueHD, and is as long as its first byte says.
 pub fn fits(major: &MajorSync) -> bool
     ensures { IsTrue result ↔ (major_sync None).Fits major.now }
 {

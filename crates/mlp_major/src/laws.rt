@@ -9,8 +9,9 @@ pub fn law_major_sync()
     ensures { (first : Option MajorSync) → IsLayout (major_sync first) }
 {}
 
-/// A major sync that fits, as `fits` tells, meets the layout's rules exactly where its kind is that of the stream's first
-/// sync and no rule on its fields fails. Then later units can rely on it. Whether one fits doesn't depend on the first.
+/// A major sync that fits, as `fits` tells, meets the layout's rules exactly where its kind is that of the stream's
+/// first sync and no rule on its fields fails. Then later units can rely on it.
+/// Whether one fits doesn't depend on the first.
 pub fn law_meets()
     ensures meets { (first : Option MajorSync) (m : MajorSync) → (major_sync None).Fits m
         → (major_sync first).Meets m ↔ KeepsRules first m }

@@ -24,7 +24,8 @@ pub struct SignedSync {
 /// A byte, and behind it so many others.
 fn read_bytes(first: u8, count: u8, r: &mut BitReader) -> Result<ArrayVec<u8, 32>, Broken>
     requires { count ≤ 31 }
-    ensures { Gives (λ v. v.items) r.old r.new result (with_front (first ∷ []) ((times count (number_of 8)).read r.old.all r.old.place)) }
+    ensures { Gives (λ v. v.items) r.old r.new result
+        (with_front (first ∷ []) ((times count (number_of 8)).read r.old.all r.old.place)) }
 {
     let mut bytes: ArrayVec<u8, 32> = ArrayVec::new();
     bytes.push(first);
@@ -125,7 +126,8 @@ fn read_judged(
 ) -> Result<MajorSync, Broken>
     requires same { r.old.all ≡ bits_of bytes.now }
     requires whole { r.old.place % 8 ≡ 0 }
-    ensures read { Gives (λ m. m) r.old r.new result ((judged_sync (option_copied first.entry)).read r.old.all r.old.place) }
+    ensures read { Gives (λ m. m) r.old r.new result
+        ((judged_sync (option_copied first.entry)).read r.old.all r.old.place) }
     ensures usable { IfOk result IsUsable }
 {
     let at = r.place();
@@ -153,7 +155,8 @@ fn first_word(bytes: &[u8]) -> u32
     word
 }
 
-/// The major sync at the reader's place in these bytes, or the first rule that fails; `first` is the stream's first one.
+/// The major sync at the reader's place in these bytes, or the first rule that fails;
+/// `first` is the stream's first one.
 ///
 /// # Errors
 ///
@@ -167,7 +170,8 @@ pub fn read_sync(
     requires same { r.old.all ≡ bits_of bytes.now }
     requires whole { r.old.place % 8 ≡ 0 }
     requires room { r.old.place + 32 ≤ 8 * length bytes.now }
-    ensures read { Gives (λ m. m) r.old r.new result ((major_sync (option_copied first.entry)).read r.old.all r.old.place) }
+    ensures read { Gives (λ m. m) r.old r.new result
+        ((major_sync (option_copied first.entry)).read r.old.all r.old.place) }
     ensures usable { IfOk result IsUsable }
 {
     let at = r.place();
@@ -184,14 +188,16 @@ pub fn read_sync(
 ///
 /// # Errors
 ///
-/// SyncKind, MajorCrc, Signature, Rate, Quant, GroupRate, Substreams or SyncChanged, whichever fails first in this order.
+/// SyncKind, MajorCrc, Signature, Rate, Quant, GroupRate, Substreams or SyncChanged,
+/// whichever fails first in this order.
 pub fn read_major(
     after_head: &[u8],
     first: Option<&MajorSync>,
 ) -> Result<(MajorSync, usize), Broken>
     requires low { 4 ≤ length after_head.now }
     requires high { length after_head.now ≤ 8190 }
-    ensures read { MatchResult result (λ x. (major_sync (option_copied first.entry)).read (bits_of after_head.now) 0 ≡ Ok (x.0, 8 * x.1))
+    ensures read { MatchResult result
+        (λ x. (major_sync (option_copied first.entry)).read (bits_of after_head.now) 0 ≡ Ok (x.0, 8 * x.1))
         (λ e. (major_sync (option_copied first.entry)).read (bits_of after_head.now) 0 ≡ Err e) }
     ensures usable { IfOk result (λ x. IsUsable x.0) }
 {

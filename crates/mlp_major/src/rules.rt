@@ -45,7 +45,8 @@ fn is_unchanged(first: Option<&MajorSync>, major: &MajorSync) -> bool
 
 /// The rules on the format info, in their order. Bits are counted from the sync's first.
 fn check_format(format: &FormatInfo) -> Result<(), Broken>
-    ensures rules { MatchResult result (λ x. first_fault format_rules format.now ≡ None) (λ e. first_fault format_rules format.now ≡ Some (e.field, e.bit)) }
+    ensures rules { MatchResult result (λ x. first_fault format_rules format.now ≡ None)
+        (λ e. first_fault format_rules format.now ≡ Some (e.field, e.bit)) }
     ensures near { IfErr result (λ e. e.bit ≤ 128) }
     ensures rate { OnOk result (IsTrue (is_rate (rate_of format.now))) }
 {

@@ -132,9 +132,11 @@ fn push_all(bytes: &[u8], out: &mut UnitBytes)
 /// `UnitTooLong` exactly where the bytes would pass 8190; then `out` is unchanged.
 pub fn write_major(major: &MajorSync, out: &mut UnitBytes) -> Result<(), UnitTooLong>
     requires { (major_sync None).Fits major.now }
-    ensures too_long { IsErr result ↔ (65520 < length (bits_of out.old.items ++ (major_sync None).spelling major.now)) }
+    ensures too_long { IsErr result
+        ↔ (65520 < length (bits_of out.old.items ++ (major_sync None).spelling major.now)) }
     ensures kept { OnErr result (out.new ≡ out.old) }
-    ensures appended { OnOk result (bits_of out.new.items ≡ bits_of out.old.items ++ (major_sync None).spelling major.now) }
+    ensures appended { OnOk result
+        (bits_of out.new.items ≡ bits_of out.old.items ++ (major_sync None).spelling major.now) }
 {
     let length = 28 + major.extension.len();
     if out.len() + length > 8190 {

@@ -102,7 +102,8 @@ module _ (bytes : List ℕ) (o : Outer) (start : ℕ) (start-is : start ≡ 4 + 
       → x ≡ first_failing (may_stand (stream_kind (in_force first o.major))) (directory_place (unit_with bytes o)) o.entries.items
   extra_is first k x k-is e = e ∙ rw (k-is, es-is, place-is) refl
 
-  pub flag_is : (there : Bool) (x : Option ℕ) → there ≡ is_some o.major → x ≡ first_failing (is_restart_flag there) (8 * start) es → x ≡ first_failing (is_restart_flag (is_some o.major)) (directory_place (unit_with bytes o)) o.entries.items
+  pub flag_is : (there : Bool) (x : Option ℕ) → there ≡ is_some o.major → x ≡ first_failing (is_restart_flag there) (8 * start) es
+      → x ≡ first_failing (is_restart_flag (is_some o.major)) (directory_place (unit_with bytes o)) o.entries.items
   flag_is there x there-is e = e ∙ rw (there-is, es-is, place-is) refl
 
   pub end_is : (x : Option ℕ) → x ≡ first_bad_end 0 ((length bytes - o.body) / 2) (8 * start) es → x ≡ first_bad_end 0 (length (drop o.body bytes) / 2) (directory_place (unit_with bytes o)) o.entries.items

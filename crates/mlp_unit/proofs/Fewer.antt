@@ -115,7 +115,8 @@ unlike_fewer n (e ∷ es) some fits unlike = by_extra e.extra refl
     by_extra None is =
         let text = (directory (length (take n es))).spelling (take n es) in
         let b = behind_first_bit e in
-        let first : (directory (length (e ∷ take n es))).spelling (e ∷ take n es) ≡ false ∷ (b.0 ++ text) = directory_first e (take n es) ∙ ap (λ (t : List Bool). t ++ text) (b.1 ∙ ap (λ (o : Option ℕ). is_some o ∷ b.0) is) in
+        let first : (directory (length (e ∷ take n es))).spelling (e ∷ take n es) ≡ false ∷ (b.0 ++ text) =
+        directory_first e (take n es) ∙ ap (λ (t : List Bool). t ++ text) (b.1 ∙ ap (λ (o : Option ℕ). is_some o ∷ b.0) is) in
         ap (λ (t : List Bool). eqb (number (take 31 t)) sync) first ∙ no_sync (b.0 ++ text)
     by_extra (Some x) is =
         let text = (directory (length (take n es))).spelling (take n es) in

@@ -107,7 +107,8 @@ not_like (e ∷ es) more some fits mark = by_extra e.extra refl
     by_extra (Some x) is =
         let len = entry_takes.takes e (directory_first_fits e es fits) in
         let four : entry_size e ≡ 4 = ap (λ (o : Option ℕ). cond (is_some o) 4 2) is in
-        let long : 31 ≤ length ((directory (length (e ∷ es))).spelling (e ∷ es)) = omega (arith, len, four, ap (λ (t : List Bool). length t) (directory_first e es), length-append (entry.spelling e) ((directory (length es)).spelling es)) in
+        let long : 31 ≤ length ((directory (length (e ∷ es))).spelling (e ∷ es)) =
+        omega (arith, len, four, ap (λ (t : List Bool). length t) (directory_first e es), length-append (entry.spelling e) ((directory (length es)).spelling es)) in
         ap (λ (t : List Bool). eqb (number t) sync) (sym (take-append-le 31 ((directory (length (e ∷ es))).spelling (e ∷ es)) more long)) ∙ mark (omega (arith, four))
 
 -- ---- a unit that fits and meets the rules

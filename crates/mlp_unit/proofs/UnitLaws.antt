@@ -38,7 +38,8 @@ behind_sync_is first h m = search (layouts, directory_is) depth 20
 
 pub head_takes : Takes head (λ h. 32)
 unfolding head head_fields
-head_takes = takes_is _ _ _ (ruled_takes _ _ _ (whole_takes _ _ _ (part_takes _ _ _ _ _ (number_takes 4) (λ a. part_takes _ _ _ _ _ (number_takes 12) (λ a. part_takes _ _ _ _ _ (number_takes 16) (λ a. made_takes _)))))) (λ h. omega arith)
+head_takes =
+    takes_is _ _ _ (ruled_takes _ _ _ (whole_takes _ _ _ (part_takes _ _ _ _ _ (number_takes 4) (λ a. part_takes _ _ _ _ _ (number_takes 12) (λ a. part_takes _ _ _ _ _ (number_takes 16) (λ a. made_takes _)))))) (λ h. omega arith)
 
 extra_size : (there : Bool) → Takes (present there (number_of 16)) (option_size (λ x. 16))
 extra_size there = present_takes there _ (λ x. 16) (number_takes 16)

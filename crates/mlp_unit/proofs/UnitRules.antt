@@ -69,7 +69,8 @@ sync_there (Some m) some = refl
 
 -- ---- what may be written and may follow is a unit that meets the rules
 
-module _ (first : Option MajorSync) (timing : ℕ) (major : Option MajorSync) (entries : List DirEntry) (body : List ℕ) (w : Writable major entries body) (f : MayFollow first major entries) (size : unit_size major entries body ≤ 8190) where
+module _ (first : Option MajorSync) (timing : ℕ) (major : Option MajorSync) (entries : List DirEntry) (body : List ℕ)
+    (w : Writable major entries body) (f : MayFollow first major entries) (size : unit_size major entries body ≤ 8190) where
   parts_meet : (parts first).Meets (written_unit timing major entries body)
   unfolding parts part sized marked behind_sync tested made
   parts_meet =

@@ -55,7 +55,8 @@ pub pushed_word : (old : List ℕ) (word : ℕ) → word < 65536 → bits_of ((o
 pushed_word old word lt = rw (bits_of-append (old ++ word / 256 ∷ []) (word % 256 ∷ []), bits_of-append old (word / 256 ∷ []), bits_of-one (word / 256), bits_of-one (word % 256), word_bytes word lt)
     (append_assoc (bits_of old) (bits 8 (word / 256)) (bits 8 (word % 256)))
 
-pub nibbles_sum : (word : ℕ) (rest : List Bool) → word < 65536 → half_byte_sum (bits 16 word ++ rest) ≡ bit_xor (bit_xor (bit_xor (word / 256 / 16) (word / 256 % 16)) (bit_xor (word % 256 / 16) (word % 256 % 16))) (half_byte_sum rest)
+pub nibbles_sum : (word : ℕ) (rest : List Bool) → word < 65536
+    → half_byte_sum (bits 16 word ++ rest) ≡ bit_xor (bit_xor (bit_xor (word / 256 / 16) (word / 256 % 16)) (bit_xor (word % 256 / 16) (word % 256 % 16))) (half_byte_sum rest)
 nibbles_sum word rest lt =
     rw (word_bytes word lt, append_assoc (bits 8 (word / 256)) (bits 8 (word % 256)) rest, one_byte (word / 256) (bits 8 (word % 256) ++ rest) (omega arith), one_byte (word % 256) rest (omega arith)) (simp xor_assoc)
 

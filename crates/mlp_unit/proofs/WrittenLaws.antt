@@ -106,7 +106,8 @@ unlike_still (e ∷ es) more some fits unlike = by_extra e.extra refl
     by_extra (Some x) is =
         let len = entry_takes.takes e (directory_first_fits e es fits) in
         let four : entry_size e ≡ 4 = ap (λ (o : Option ℕ). cond (is_some o) 4 2) is in
-        let long : 31 ≤ length ((directory (length (e ∷ es))).spelling (e ∷ es)) = omega (arith, len, four, ap (λ (t : List Bool). length t) (directory_first e es), length-append (entry.spelling e) ((directory (length es)).spelling es)) in
+        let long : 31 ≤ length ((directory (length (e ∷ es))).spelling (e ∷ es)) =
+        omega (arith, len, four, ap (λ (t : List Bool). length t) (directory_first e es), length-append (entry.spelling e) ((directory (length es)).spelling es)) in
         ap (λ (t : List Bool). eqb (number t) sync) (take-append-le 31 ((directory (length (e ∷ es))).spelling (e ∷ es)) more long) ∙ unlike
 
 -- ---- the parity
@@ -169,10 +170,12 @@ module _ (first : Option MajorSync) (timing : ℕ) (major : Option MajorSync) (e
 
   -- as the code puts it together
   pub put_together : (word : ℕ) (a b c d e : List Bool) → unit_size major entries body ≤ 8190 → word ≡ (written_head timing (unit_size major entries body / 2) entries).check * 4096 + unit_size major entries body / 2
-      → a ≡ bits 16 word → b ≡ a ++ bits 16 timing → c ≡ b ++ major_text major → d ≡ c ++ (directory (length entries)).spelling entries → e ≡ d ++ bits_of body → e ≡ (access_unit first).spelling (written_unit timing major entries body)
+      → a ≡ bits 16 word → b ≡ a ++ bits 16 timing → c ≡ b ++ major_text major → d ≡ c ++ (directory (length entries)).spelling entries
+      → e ≡ d ++ bits_of body → e ≡ (access_unit first).spelling (written_unit timing major entries body)
   put_together word a b c d e size word-is a-is b-is c-is d-is e-is =
       let h = written_head timing (unit_size major entries body / 2) entries in
-      let front : head.spelling h ≡ bits 16 word ++ bits 16 timing = head_text h.check (unit_size major entries body / 2) timing (omega (arith, twice major entries body w)) ∙ ap (λ (n : ℕ). bits 16 n ++ bits 16 timing) (sym word-is) in
+      let front : head.spelling h ≡ bits 16 word ++ bits 16 timing =
+      head_text h.check (unit_size major entries body / 2) timing (omega (arith, twice major entries body w)) ∙ ap (λ (n : ℕ). bits 16 n ++ bits 16 timing) (sym word-is) in
       rw (e-is, d-is, c-is, b-is, a-is, unit_text, front) (simp append_assoc)
 
   module _ (clock : timing < 65536) (small : Small body) (size : unit_size major entries body ≤ 8190) where

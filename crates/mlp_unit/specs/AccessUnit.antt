@@ -82,7 +82,8 @@ parts first =
 abbrev pub first_bad_end : ℕ → ℕ → ℕ → List DirEntry → Option ℕ
 first_bad_end before last place [] = None
 first_bad_end before last place (e ∷ es) =
-    if nat_le before e.end && nat_le e.end last then first_bad_end e.end last (place + 8 * entry_size e) es else Some place
+    if nat_le before e.end && nat_le e.end last
+    then first_bad_end e.end last (place + 8 * entry_size e) es else Some place
 
 abbrev pub further : ℕ → Option ℕ → Option ℕ
 further bits None = None
@@ -93,7 +94,8 @@ directory_place u = 32 + 8 * major_size u.major
 
 -- a rule on each entry, so many bits in it
 abbrev pub each_entry : Field → ℕ → (AccessUnit → DirEntry → Bool) → Rule AccessUnit
-each_entry field at holds = record { field = field; fails = λ u. further at (first_failing (holds u) (directory_place u) u.entries) }
+each_entry field at holds =
+    record { field = field; fails = λ u. further at (first_failing (holds u) (directory_place u) u.entries) }
 
 -- a restart is absent exactly where there is no major sync
 abbrev pub is_restart_flag : Bool → DirEntry → Bool
@@ -118,7 +120,10 @@ rules first =
     each_entry rule.ExtraWord 0 (λ u. may_stand (stream_kind (in_force first u.major))) ∷
     must rule.UnitParity (λ u. parity_of u.head u.entries == 0xF) ∷
     each_entry rule.RestartFlag 1 (λ u. is_restart_flag (is_some u.major)) ∷
-    record { field = rule.DirectoryEnd; fails = λ u. further 4 (first_bad_end 0 (length u.body / 2) (directory_place u) u.entries) } ∷ []
+    record {
+      field = rule.DirectoryEnd;
+      fails = λ u. further 4 (first_bad_end 0 (length u.body / 2) (directory_place u) u.entries);
+    } ∷ []
 
 -- a unit behind the stream's first major sync, or the first unit, where that is `None`
 unfoldable pub access_unit : Option MajorSync → Layout AccessUnit

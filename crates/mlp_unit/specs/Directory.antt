@@ -15,7 +15,13 @@ entry =
     part flag (λ e. e.reserved) (λ reserved.
     part (number_of 12) (λ e. e.end) (λ end.
     part (present there (number_of 16)) (λ e. e.extra) (λ extra.
-    made (record { extra = extra; restart_absent = restart_absent; checked = checked; reserved = reserved; end = end })))))))
+    made (record {
+      extra = extra;
+      restart_absent = restart_absent;
+      checked = checked;
+      reserved = reserved;
+      end = end;
+    })))))))
 
 -- the bits of an extra word, where one is there
 abbrev pub extra_bits : Option ℕ → List Bool

@@ -7,4 +7,5 @@ use Rattle.mlp_unit.specs.Written.{written_unit}
 
 -- for presentation k its first k + 1 entries and segments, and nothing behind them
 abbrev pub extracted : ℕ → AccessUnit → AccessUnit
-extracted k u = written_unit u.head.timing (option_map (smaller k) u.major) (take (k + 1) u.entries) (take (2 * end_at u.entries k) u.body)
+extracted k u = written_unit u.head.timing
+    (option_map (smaller k) u.major) (take (k + 1) u.entries) (take (2 * end_at u.entries k) u.body)

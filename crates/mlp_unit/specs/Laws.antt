@@ -28,7 +28,8 @@ pub record CouldBeFirst (first m : MajorSync) (all : List Bool) (u : AccessUnit)
   pub alike : Alike first m
 
 -- what can be written as the next unit
-pub record MayBeNext (first : Option MajorSync) (timing : ℕ) (major : Option MajorSync) (entries : List DirEntry) (body : List ℕ) : Type 0 where
+pub record MayBeNext (first : Option MajorSync) (timing : ℕ)
+    (major : Option MajorSync) (entries : List DirEntry) (body : List ℕ) : Type 0 where
   pub writable : Writable major entries body
   pub follows : MayFollow first major entries
   pub clock : timing < 2 ^ 16
@@ -51,6 +52,8 @@ pub record RewrittenMeets (first : Option MajorSync) (timing : ℕ) (u : AccessU
 
 -- what an extraction of presentation k makes of a unit
 pub record FewerMeets (k : ℕ) (first : Option MajorSync) (u : AccessUnit) : Type 0 where
-  pub writable : Writable (option_map (smaller k) u.major) (take (k + 1) u.entries) (take (2 * end_at u.entries k) u.body)
-  pub small : unit_size (option_map (smaller k) u.major) (take (k + 1) u.entries) (take (2 * end_at u.entries k) u.body) ≤ 8190
+  pub writable : Writable (option_map (smaller k) u.major)
+      (take (k + 1) u.entries) (take (2 * end_at u.entries k) u.body)
+  pub small : unit_size (option_map (smaller k) u.major)
+      (take (k + 1) u.entries) (take (2 * end_at u.entries k) u.body) ≤ 8190
   pub allowed : Allowed (access_unit (option_map (smaller k) first)) (extracted k u)

@@ -19,7 +19,8 @@ major_text (Some m) = (major_sync None).spelling m
 
 -- the text of a unit: head, major sync, directory, and the segments and what follows them
 abbrev pub unit_text : AccessUnit → List Bool
-unit_text u = head.spelling u.head ++ (major_text u.major ++ ((directory (length u.entries)).spelling u.entries ++ bits_of u.body))
+unit_text u = head.spelling u.head
+    ++ (major_text u.major ++ ((directory (length u.entries)).spelling u.entries ++ bits_of u.body))
 
 -- the entries are as many as a major sync tells
 abbrev pub CountFits : Option MajorSync → ℕ → Type 0

@@ -77,7 +77,8 @@ pub fn read_directory(
     requires some { 1 ≤ substreams }
     requires few { substreams ≤ 4 }
     requires small { length bytes.now ≤ 8190 }
-    ensures { MatchResult result (λ x. (lone_directory kind substreams).read (bits_of bytes.now) 0 ≡ Ok (x.0.items, 8 * x.1))
+    ensures { MatchResult result
+        (λ x. (lone_directory kind substreams).read (bits_of bytes.now) 0 ≡ Ok (x.0.items, 8 * x.1))
         (λ e. (lone_directory kind substreams).read (bits_of bytes.now) 0 ≡ Err e) }
 {
     let mut r = BitReader::new(bytes);

@@ -65,9 +65,9 @@ fn is_like_sync(entries: &[DirEntry]) -> bool
     }
 }
 
-/// Whether these can be a unit's: a major sync that fits or none; one to four entries, as many as the major sync tells, whose
-/// ends have 12 bits, don't fall and lie within the body; a body of whole words; and without a major sync a directory that
-/// doesn't begin as one.
+/// Whether these can be a unit's: a major sync that fits or none; one to four entries, as many as the major sync tells,
+/// whose ends have 12 bits, don't fall and lie within the body; a body of whole words; and without a major sync a
+/// directory that doesn't begin as one.
 pub fn is_writable(major: Option<&MajorSync>, entries: &[DirEntry], body: &[u8]) -> bool
     ensures { IsTrue result ↔ Writable (option_copied major.entry) entries.now body.now }
 {

@@ -30,7 +30,8 @@ pub fn read_head(r: &mut BitReader) -> Result<UnitHead, Broken>
 
 /// The head that stands at the front of these bytes, or UnitHeader or UnitLength.
 pub fn first_head(next: &[u8]) -> Result<UnitHead, Broken>
-    ensures { MatchResult result (λ h. head.read (bits_of next.now) 0 ≡ Ok (h, 32)) (λ e. head.read (bits_of next.now) 0 ≡ Err e) }
+    ensures { MatchResult result (λ h. head.read (bits_of next.now) 0 ≡ Ok (h, 32))
+        (λ e. head.read (bits_of next.now) 0 ≡ Err e) }
 {
     let mut r = BitReader::new(&next[..next.len().min(8)]);
     read_head(&mut r)
@@ -39,7 +40,8 @@ pub fn first_head(next: &[u8]) -> Result<UnitHead, Broken>
 /// The head of a unit all of whose bytes are there, or the fault of `frame`.
 pub fn framed_head(next: &[u8]) -> Result<UnitHead, Broken>
     ensures head { IfOk result (λ h. head.read (bits_of next.now) 0 ≡ Ok (h, 32)) }
-    ensures frame { MatchResult result (λ h. frame_of next.now ≡ Ok (2 * h.words)) (λ e. frame_of next.now ≡ Err e) }
+    ensures frame { MatchResult result (λ h. frame_of next.now ≡ Ok (2 * h.words))
+        (λ e. frame_of next.now ≡ Err e) }
 {
     let head = first_head(next)?;
     if 2 * usize::from(head.words) > next.len() {
@@ -53,8 +55,8 @@ pub fn framed_head(next: &[u8]) -> Result<UnitHead, Broken>
 ///
 /// # Errors
 ///
-/// UnitHeader where not all four bytes of a head are there; UnitLength where its length is below two words, or the unit is
-/// longer than what is left.
+/// UnitHeader where not all four bytes of a head are there; UnitLength where its length is below two words, or the unit
+/// is longer than what is left.
 pub fn frame(next: &[u8]) -> Result<usize, Broken>
     ensures { result ≡ frame_of next.now }
 {

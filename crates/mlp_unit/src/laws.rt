@@ -20,12 +20,13 @@ pub fn law_access_unit()
     ensures { (first : Option MajorSync) → IsLayout (access_unit first) }
 {}
 
-/// Where there is no frame the unit fails with the same fault. The bytes of a frame are read as the unit that all the bytes
-/// are read as. Of a longer stream 8190 bytes are enough.
+/// Where there is no frame the unit fails with the same fault. The bytes of a frame are read as the unit that all the
+/// bytes are read as. Of a longer stream 8190 bytes are enough.
 pub fn law_frame()
     ensures fails { (first : Option MajorSync) (next : List ℕ) (e : Broken) → frame_of next ≡ Err e
         → unit_read first next ≡ Err e }
-    ensures size { (next : List ℕ) (n : ℕ) → frame_of next ≡ Ok n → (4 ≤ n) × (n ≤ 8190) × (n ≤ length next) }
+    ensures size { (next : List ℕ) (n : ℕ) → frame_of next ≡ Ok n
+        → (4 ≤ n) × (n ≤ 8190) × (n ≤ length next) }
     ensures alone { (next : List ℕ) (n : ℕ) → frame_of next ≡ Ok n → frame_of (take n next) ≡ Ok n }
     ensures same { (first : Option MajorSync) (next : List ℕ) (n : ℕ) → frame_of next ≡ Ok n
         → unit_read first next ≡ unit_read first (take n next) }
@@ -42,10 +43,12 @@ pub fn law_outline()
 /// A unit that fits and meets the rules is read back from its spelling.
 pub fn law_written()
     ensures { (first : Option MajorSync) (u : AccessUnit) → Allowed (access_unit first) u
-        → (access_unit first).read ((access_unit first).spelling u) 0 ≡ Ok (u, length ((access_unit first).spelling u)) }
+        → (access_unit first).read ((access_unit first).spelling u) 0
+        ≡ Ok (u, length ((access_unit first).spelling u)) }
 {}
 
-/// The text of a unit that fits is that of its head, its major sync, its directory and its body, whatever the first sync.
+/// The text of a unit that fits is that of its head, its major sync, its directory and its body,
+/// whatever the first sync.
 pub fn law_text()
     ensures { (first : Option MajorSync) (u : AccessUnit) → (access_unit first).Fits u
         → (access_unit first).spelling u ≡ unit_text u }
@@ -53,8 +56,10 @@ pub fn law_text()
 
 /// What `is_writable` tells of and what may follow is written as a unit that fits and meets the rules.
 pub fn law_meets()
-    ensures { (first : Option MajorSync) (timing : ℕ) (major : Option MajorSync) (entries : List DirEntry) (body : List ℕ)
-        → MayBeNext first timing major entries body → Allowed (access_unit first) (written_unit timing major entries body) }
+    ensures { (first : Option MajorSync) (timing : ℕ)
+        (major : Option MajorSync) (entries : List DirEntry) (body : List ℕ)
+        → MayBeNext first timing major entries body
+        → Allowed (access_unit first) (written_unit timing major entries body) }
 {}
 
 /// Behind first major syncs of one kind, one rate and one number of substreams units are the same.
@@ -77,7 +82,8 @@ pub fn law_rewritten()
 
 /// What an extraction makes of a unit that meets the rules can be written, and meets them in the stream that it makes.
 pub fn law_fewer()
-    ensures { (k : ℕ) (first : Option MajorSync) (u : AccessUnit) → FirstUsable first → Allowed (access_unit first) u
+    ensures { (k : ℕ) (first : Option MajorSync) (u : AccessUnit)
+        → FirstUsable first → Allowed (access_unit first) u
         → k < length u.entries → FewerMeets k first u }
 {}
 
@@ -86,8 +92,8 @@ pub fn law_parity()
     ensures { (bytes : List ℕ) → AreBytes bytes → half_byte_sum (bits_of bytes) ≡ nibble_parity_of bytes }
 {}
 
-/// A unit that was read can be written, and is the one that is written for its timing, major sync, entries and body. So its
-/// own bytes are written again.
+/// A unit that was read can be written, and is the one that is written for its timing, major sync, entries and body. So
+/// its own bytes are written again.
 pub fn law_reread()
     ensures written { (first : Option MajorSync) (bytes : List ℕ) (u : AccessUnit) → FirstUsable first
         → WasRead first bytes u → IsRewritten u }

@@ -47,7 +47,8 @@ fn read_major(
     requires same { r.old.all ≡ bits_of unit.now }
     requires whole { r.old.place % 8 ≡ 0 }
     requires room { r.old.place + 32 ≤ 8 * length unit.now }
-    ensures read { Gives (λ x. major.new) r.old r.new result ((present true (major_sync (option_copied first.entry))).read r.old.all r.old.place) }
+    ensures read { Gives (λ x. major.new) r.old r.new result
+        ((present true (major_sync (option_copied first.entry))).read r.old.all r.old.place) }
     ensures usable { IfOk result (λ x. IfSome major.new IsUsable) }
 {
     *major = Some(read_sync(unit, first, r)?);
@@ -68,7 +69,8 @@ fn read_present(
     requires same { r.old.all ≡ bits_of unit.now }
     requires whole { r.old.place % 8 ≡ 0 }
     requires room { IsTrue there → r.old.place + 32 ≤ 8 * length unit.now }
-    ensures read { Gives (λ x. major.new) r.old r.new result ((present there (major_sync (option_copied first.entry))).read r.old.all r.old.place) }
+    ensures read { Gives (λ x. major.new) r.old r.new result
+        ((present there (major_sync (option_copied first.entry))).read r.old.all r.old.place) }
     ensures usable { IfOk result (λ x. IfSome major.new IsUsable) }
 {
     if there {
@@ -92,9 +94,12 @@ fn read_behind_sync(
     requires size { length unit.now ≡ 2 * head.words }
     requires place { r.old.place ≡ 32 + 8 * major_size major.now }
     requires few { substreams_of (in_force (option_copied first) major.now) ≤ 4 }
-    ensures read { MatchResult result (λ x. (behind_sync (option_copied first.entry) head major.now).read r.old.all r.old.place ≡ Ok (unit_of unit.now head major.now entries.new.items (r.new.place / 8), 8 * length unit.now))
+    ensures read { MatchResult result
+        (λ x. (behind_sync (option_copied first.entry) head major.now).read r.old.all r.old.place
+        ≡ Ok (unit_of unit.now head major.now entries.new.items (r.new.place / 8), 8 * length unit.now))
         (λ e. (behind_sync (option_copied first.entry) head major.now).read r.old.all r.old.place ≡ Err e) }
-    ensures body { IfOk result (λ x. r.new.place / 8 ≡ body_place (unit_of unit.now head major.now entries.new.items (r.new.place / 8))) }
+    ensures body { IfOk result
+        (λ x. r.new.place / 8 ≡ body_place (unit_of unit.now head major.now entries.new.items (r.new.place / 8))) }
 {
     let Some(sync) = in_force(first, major) else {
         return Err(broken(Field::FirstSync, r.place()));
@@ -125,11 +130,14 @@ fn check_directory(
     body: usize,
 ) -> Result<(), Broken>
     requires framed { frame_of unit.now ≡ Ok (length unit.now) }
-    requires read { (parts (option_copied first)).read (bits_of unit.now) 0 ≡ Ok (unit_of unit.now head major.now entries.now body, 8 * length unit.now) }
+    requires read { (parts (option_copied first)).read (bits_of unit.now) 0
+        ≡ Ok (unit_of unit.now head major.now entries.now body, 8 * length unit.now) }
     requires body { body ≡ body_place (unit_of unit.now head major.now entries.now body) }
     requires few { length entries.now ≤ 4 }
-    ensures { MatchResult result (λ x. first_fault (rules (option_copied first.entry)) (unit_of unit.now head major.now entries.now body) ≡ None)
-        (λ e. first_fault (rules (option_copied first.entry)) (unit_of unit.now head major.now entries.now body) ≡ Some (e.field, e.bit)) }
+    ensures { MatchResult result (λ x. first_fault (rules (option_copied first.entry))
+        (unit_of unit.now head major.now entries.now body) ≡ None)
+        (λ e. first_fault (rules (option_copied first.entry)) (unit_of unit.now head major.now entries.now body)
+        ≡ Some (e.field, e.bit)) }
 {
     let start = directory_start(major);
     let kind = stream_kind(in_force(first, major));
@@ -198,8 +206,8 @@ pub fn read_outer(unit: &[u8], first: Option<&MajorSync>) -> Result<Outer, Broke
     read_framed(unit, head, first)
 }
 
-/// The next unit's length in bytes, and its outer part: what `frame` and `read_outer` say, with the head read once. `next`
-/// is the rest of a stream or at least its first 8190 bytes.
+/// The next unit's length in bytes, and its outer part: what `frame` and `read_outer` say, with the head read once.
+/// `next` is the rest of a stream or at least its first 8190 bytes.
 ///
 /// # Errors
 ///

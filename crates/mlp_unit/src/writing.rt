@@ -92,7 +92,8 @@ fn push_entry(entry: &DirEntry, out: &mut UnitBytes)
 fn push_directory(entries: &[DirEntry], out: &mut UnitBytes)
     requires fits { (directory (length entries.now)).Fits entries.now }
     requires room { array_vec_len out.old + directory_size entries.now ≤ 8190 }
-    ensures bits { bits_of out.new.items ≡ bits_of out.old.items ++ (directory (length entries.now)).spelling entries.now }
+    ensures bits { bits_of out.new.items
+        ≡ bits_of out.old.items ++ (directory (length entries.now)).spelling entries.now }
     ensures len { array_vec_len out.new ≡ array_vec_len out.old + directory_size entries.now }
 {
     for entry in entries {
@@ -149,7 +150,8 @@ pub fn write_unit(
     requires { Writable (option_copied major) entries.now body.now }
     ensures too_long { IsErr result ↔ (8190 < unit_size (option_copied major.entry) entries.now body.now) }
     ensures kept { OnErr result (out.new ≡ out.old) }
-    ensures written { OnOk result (SpellsUnit (written_unit timing (option_copied major.entry) entries.now body.now) out.new.items) }
+    ensures written { OnOk result
+        (SpellsUnit (written_unit timing (option_copied major.entry) entries.now body.now) out.new.items) }
 {
     let front = 4 + major_length(major) + directory_length(entries);
     if body.len() > 8190 - front {

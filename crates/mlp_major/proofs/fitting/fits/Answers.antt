@@ -31,5 +31,6 @@ returns c =
         info = omega arith;
         extension = subst (λ (bs : List ℕ). (extension (is_long (kind_of m.format) m.meaning)).Fits bs) bytes (subst (λ (b : Bool). (extension b).Fits c.deref.result.now) long (c.extension_fits.ensures.0 t));
       }) (omega arith),
-      λ fits. c.extension_fits.ensures.1 (subst (λ (b : Bool). (extension b).Fits c.deref.result.now) (sym long) (subst (λ (bs : List ℕ). (extension (is_long (kind_of m.format) m.meaning)).Fits bs) (sym bytes) (fit_of m fits).extension)),
+      λ fits. c.extension_fits.ensures.1
+          (subst (λ (b : Bool). (extension b).Fits c.deref.result.now) (sym long) (subst (λ (bs : List ℕ). (extension (is_long (kind_of m.format) m.meaning)).Fits bs) (sym bytes) (fit_of m fits).extension)),
     )

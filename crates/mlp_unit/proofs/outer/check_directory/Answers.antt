@@ -97,7 +97,8 @@ returns-in-Some-first_bad_end c =
     let parity : c.nibble_parity.result ≡ parity_of c.args.head c.args.entries.now = c.nibble_parity.ensures
     ∙ ap (λ (n : ℕ). nibble_parity_of (take 4 c.args.unit.now ++ take (c.args.body - n) (drop n c.args.unit.now))) c.directory_start-start.ensures ∙ sym s.parity in
     let flag = flag_is c.args.unit.now
-    (as_outer c.args.head c.args.major.now c.args.entries.now c.args.body) c.directory_start-start.result c.directory_start-start.ensures c.args.entries.now refl c.is_some.result None c.is_some.ensures c.in_default-first_restart_flag.ensures.first in
+    (as_outer c.args.head c.args.major.now c.args.entries.now c.args.body) c.directory_start-start.result c.directory_start-start.ensures
+    c.args.entries.now refl c.is_some.result None c.is_some.ensures c.in_default-first_restart_flag.ensures.first in
     let end = end_is c.args.unit.now (as_outer c.args.head c.args.major.now c.args.entries.now c.args.body) c.directory_start-start.result c.directory_start-start.ensures c.args.entries.now refl
     (Some c.in-Some-first_bad_end.place) c.in-Some-first_bad_end.ensures.first in
     rw c.broken-in-Some-first_bad_end.ensures (faults_are first (unit_of c.args.unit.now c.args.head c.args.major.now c.args.entries.now c.args.body) None c.nibble_parity.result None
@@ -113,7 +114,8 @@ returns c =
     let parity : c.nibble_parity.result ≡ parity_of c.args.head c.args.entries.now = c.nibble_parity.ensures
     ∙ ap (λ (n : ℕ). nibble_parity_of (take 4 c.args.unit.now ++ take (c.args.body - n) (drop n c.args.unit.now))) c.directory_start-start.ensures ∙ sym s.parity in
     let flag = flag_is c.args.unit.now
-    (as_outer c.args.head c.args.major.now c.args.entries.now c.args.body) c.directory_start-start.result c.directory_start-start.ensures c.args.entries.now refl c.is_some.result None c.is_some.ensures c.in_default-first_restart_flag.ensures.first in
+    (as_outer c.args.head c.args.major.now c.args.entries.now c.args.body) c.directory_start-start.result c.directory_start-start.ensures
+    c.args.entries.now refl c.is_some.result None c.is_some.ensures c.in_default-first_restart_flag.ensures.first in
     let end = end_is c.args.unit.now
     (as_outer c.args.head c.args.major.now c.args.entries.now c.args.body) c.directory_start-start.result c.directory_start-start.ensures c.args.entries.now refl None c.in_default-first_bad_end.ensures.first in
     faults_are first (unit_of c.args.unit.now c.args.head c.args.major.now c.args.entries.now c.args.body) None c.nibble_parity.result None None extra parity flag end ∙ rw c.if-nibble_parity-ne15.false refl
