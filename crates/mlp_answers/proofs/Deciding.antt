@@ -74,7 +74,8 @@ module _ {L O C : Type 0} (w : Working L O C) (is : IsWorking w) where
   not_held ended us rest (inl all) = and_left (not ended) (w.is_open (left_of w us) rest) (ap not all)
   not_held ended us rest (inr closed) = and_right (not ended) (w.is_open (left_of w us) rest) closed
 
-  decided : (ended : Bool) (us : List (UnitOf O C)) (rest : List ℕ) → is_held ended us rest ≡ false → (us ≢ [] → rest ≢ []) → (r : Result (Taken O C) Declined) → next_behind us rest ≡ r → decide ended us rest ≡ by_next r
+  decided : (ended : Bool) (us : List (UnitOf O C)) (rest : List ℕ) → is_held ended us rest ≡ false → (us ≢ [] → rest ≢ [])
+      → (r : Result (Taken O C) Declined) → next_behind us rest ≡ r → decide ended us rest ≡ by_next r
   unfolding decide
   decided ended us rest free some r e =
       ap (λ (b : Bool). cond b holds (by_rest us rest (next_behind us rest))) free ∙ ap (by_rest us rest) e ∙ rest_some us rest r some
@@ -96,7 +97,8 @@ module _ {L O C : Type 0} (w : Working L O C) (is : IsWorking w) where
   free_of ended us rest u next true e = absurd (is.open_is.no_unit (left_of w us) rest u e next)
   free_of ended us rest u next false e = and_right (not ended) (w.is_open (left_of w us) rest) e
 
-  pub decide_takes : (ended : Bool) (bytes : List ℕ) (us : List (UnitOf O C)) (rest : List ℕ) (u : UnitOf O C) → HasTaken w bytes us rest → walk.Told w.format w.start w.wanted bytes → IsNext w.format (left_of w us) (bits_of rest) u
+  pub decide_takes : (ended : Bool) (bytes : List ℕ) (us : List (UnitOf O C)) (rest : List ℕ) (u : UnitOf O C)
+      → HasTaken w bytes us rest → walk.Told w.format w.start w.wanted bytes → IsNext w.format (left_of w us) (bits_of rest) u
       → decide ended us rest ≡ takes u
   decide_takes ended bytes us rest u h told next =
       decided ended us rest (free_of ended us rest u next (w.is_open (left_of w us) rest) refl) (λ some. some_left us rest u next) _ (next_there w.format is.format_is w.start w.wanted bytes us rest u h told next)

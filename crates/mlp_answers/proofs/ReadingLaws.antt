@@ -77,7 +77,8 @@ module _ {S L O C : Type 0} (f : Format L O C) (wanted : Option ℕ) (is_open : 
 -- ---- it does a command's work
 
 module _ {S L O C : Type 0} (w : Working L O C) (Sums : List (UnitOf O C) → S → Type 0) (r : Reader S L O C) (on : ReadsOn w Sums r) where
-  given_moved : (ended : Bool) (us : List (UnitOf O C)) (s : S) (bytes : List ℕ) → IsDecided w ended us bytes → (t : Taken O C) → next_behind w Sums us bytes ≡ Ok t → (x : Result (List ℕ × S) Refusal) → IsGiven w Sums us t x
+  given_moved : (ended : Bool) (us : List (UnitOf O C)) (s : S) (bytes : List ℕ) → IsDecided w ended us bytes
+      → (t : Taken O C) → next_behind w Sums us bytes ≡ Ok t → (x : Result (List ℕ × S) Refusal) → IsGiven w Sums us t x
       → IsMoved w Sums ended us bytes (on_given w.format w.wanted w.is_open r t.size x)
   given_moved ended us s bytes d t e (Ok x) g = record { taken = t; next = e; size = refl; gives = g.0; sums = g.1 }
   given_moved ended us s bytes d t e (Err k) g = (d, inr (t, e, g))

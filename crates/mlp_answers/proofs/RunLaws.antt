@@ -123,7 +123,8 @@ module _ {L O C : Type 0} (w : Working L O C) (is : IsWorking w) where
         with_front ended bytes xs out (run_for step last turns ended t (drop n rest))
         (go (us ++ m.taken.unit ∷ []) (xs ++ out) (drop n rest) t worked_on m.sums (omega (arith, length-drop n rest, within.0, within.1, m.size)))
 
-    sums_from : (turns : ℕ) (ended : Bool) (bytes : List ℕ) (us : List (UnitOf O C)) (xs rest : List ℕ) (s : S) → Worked w bytes us rest xs → Sums us s → length rest < turns → Summed ended bytes xs (run_for step last turns ended s rest)
+    sums_from : (turns : ℕ) (ended : Bool) (bytes : List ℕ) (us : List (UnitOf O C)) (xs rest : List ℕ) (s : S)
+        → Worked w bytes us rest xs → Sums us s → length rest < turns → Summed ended bytes xs (run_for step last turns ended s rest)
     unfolding run_for
     sums_from zero ended bytes us xs rest s worked sums few = absurd (omega arith)
     sums_from (suc turns) ended bytes us xs [] s worked sums few = at_the_end ended bytes us xs s worked sums

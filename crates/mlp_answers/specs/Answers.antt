@@ -51,7 +51,8 @@ module _ {L O C : Type 0} (w : Working L O C) where
     unfinished : {output : List ℕ} (us : List (UnitOf O C)) (r : Refusal) → ended ≡ true
         → AreUnits bytes us → Gives [] us output → w.Ends us (Err r) → Answers ended bytes (refusing r) output
     -- the next unit has this fault
-    breaks : {output : List ℕ} (us : List (UnitOf O C)) (rest : List ℕ) (fault : Fault) → Worked bytes us rest output
+    breaks : {output : List ℕ} (us : List (UnitOf O C)) (rest : List ℕ) (fault : Fault)
+        → Worked bytes us rest output
         → length us ≡ fault.unit → Fail bytes fault → IsDecided ended us rest
         → Answers ended bytes (refusing (refused.Fault fault)) output
     -- the first unit doesn't tell the presentation
@@ -62,7 +63,8 @@ module _ {L O C : Type 0} (w : Working L O C) where
         → Worked bytes us rest output → HasTaken bytes (us ++ u ∷ []) more → w.out us u ≡ Err r
         → Answers ended bytes (refusing r) output
     -- the next unit depends on bytes that may come
-    waits : {output : List ℕ} (us : List (UnitOf O C)) (rest : List ℕ) → ended ≡ false → Worked bytes us rest output
+    waits : {output : List ℕ} (us : List (UnitOf O C)) (rest : List ℕ)
+        → ended ≡ false → Worked bytes us rest output
         → w.is_open (left_of w us) rest ≡ true → Answers ended bytes (Err TooLong) output
 
   -- the answer to an input: past the limit nothing is looked at
@@ -78,4 +80,5 @@ module _ {L O C : Type 0} (w : Working L O C) where
   -- an end and an output, and no other
   pub record HasOneAnswer (all : List ℕ) : Type 0 where
     pub some : (end : Result Unit Stop) × (output : List ℕ) × Answer all end output
-    pub one : (e f : Result Unit Stop) (xs ys : List ℕ) → Answer all e xs → Answer all f ys → (e ≡ f) × (xs ≡ ys)
+    pub one : (e f : Result Unit Stop) (xs ys : List ℕ)
+        → Answer all e xs → Answer all f ys → (e ≡ f) × (xs ≡ ys)

@@ -43,4 +43,5 @@ module _ {S L O C : Type 0} (f : Format L O C) (wanted : Option ℕ) (is_open : 
 
   -- each unit is counted
   pub record IsReader : Type 0 where
-    pub counts : (s t : S) (u : Taken O C) (out : List ℕ) → r.gives s u ≡ Ok (out, t) → r.count t ≡ r.count s + 1
+    pub counts : (s t : S) (u : Taken O C) (out : List ℕ)
+        → r.gives s u ≡ Ok (out, t) → r.count t ≡ r.count s + 1

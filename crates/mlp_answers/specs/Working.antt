@@ -33,7 +33,8 @@ pub record IsOpenTest {L O C : Type 0} (f : Format L O C) (is_open : L → List 
   pub no_unit : (left : L) (bytes : List ℕ) (u : UnitOf O C)
       → is_open left bytes ≡ true → IsNext f left (bits_of bytes) u → ⊥
   -- where it isn't, more bytes change nothing
-  pub stays : (left : L) (bytes more : List ℕ) → is_open left bytes ≡ false → is_open left (bytes ++ more) ≡ false
+  pub stays : (left : L) (bytes more : List ℕ)
+      → is_open left bytes ≡ false → is_open left (bytes ++ more) ≡ false
   pub settled : (left : L) (bytes more : List ℕ) → is_open left bytes ≡ false
       → (f.outer left).read (bits_of (bytes ++ more)) 0 ≡ (f.outer left).read (bits_of bytes) 0
 

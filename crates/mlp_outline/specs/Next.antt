@@ -17,11 +17,13 @@ is_open bytes = nat_lt (length bytes) 4 || (nat_le 2 (words_of bytes) && nat_lt 
 
 -- where it doesn't, the same is read whatever follows
 abbrev pub ClosedIsDecided : Option MajorSync → List ℕ → Type 0
-ClosedIsDecided first next = is_open next ≡ false → (more : List ℕ) → unit_read first (next ++ more) ≡ unit_read first next
+ClosedIsDecided first next =
+    is_open next ≡ false → (more : List ℕ) → unit_read first (next ++ more) ≡ unit_read first next
 
 -- where it does, no unit stands at their front
 abbrev pub OpenHasNone : Option MajorSync → List ℕ → Type 0
-OpenHasNone first next = is_open next ≡ true → (u : AccessUnit) → Found (access_unit first) (bits_of next) 0 u → ⊥
+OpenHasNone first next =
+    is_open next ≡ true → (u : AccessUnit) → Found (access_unit first) (bits_of next) 0 u → ⊥
 
 -- the test sees bits alone
 abbrev pub OpenByBits : List ℕ → List ℕ → Type 0

@@ -31,12 +31,14 @@ next_outline held next = unless_refused held.refusal (next_of outline None held.
 
 -- a unit of so many of these bytes with this outer part, or what is refused
 abbrev pub outlined_of : List ℕ → Result (ℕ × Outer) Refusal → Next
-outlined_of next (Ok x) = Ok (record { size = x.0; unit = record { outer = unit_with (take x.0 next) x.1; contents = tt } })
+outlined_of next (Ok x) =
+    Ok (record { size = x.0; unit = record { outer = unit_with (take x.0 next) x.1; contents = tt } })
 outlined_of next (Err refusal) = Err refusal
 
 -- what it knows by what came of the next unit
 abbrev pub after_outline : Outlined → Next → Outlined
-after_outline held (Ok t) = record { units = held.units + 1; first = in_force held.first t.unit.outer.major; refusal = held.refusal }
+after_outline held (Ok t) =
+    record { units = held.units + 1; first = in_force held.first t.unit.outer.major; refusal = held.refusal }
 after_outline held (Err refusal) = record { units = held.units; first = held.first; refusal = Some refusal }
 
 -- behind a refusal nothing is waited for

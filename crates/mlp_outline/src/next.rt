@@ -15,8 +15,8 @@ fn words_of(next: &[u8]) -> usize
     r.peek(12) as usize
 }
 
-/// Whether the next unit depends on bytes behind these: there are fewer than four, or fewer than a length of two words at
-/// least says.
+/// Whether the next unit depends on bytes behind these: there are fewer than four, or fewer than a length of two words
+/// at least says.
 pub fn is_open(next: &[u8]) -> bool
     ensures { result ≡ is_open next.now }
 {

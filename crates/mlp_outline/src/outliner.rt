@@ -134,8 +134,8 @@ impl Outliner {
         self.refusal.is_none() && is_open(next)
     }
 
-    /// Takes one unit, and answers its length in bytes, 4 to 8190, and its outer part. `next` is the rest of the stream or
-    /// at least its first 8190 bytes.
+    /// Takes one unit, and answers its length in bytes, 4 to 8190, and its outer part. `next` is the rest of the stream
+    /// or at least its first 8190 bytes.
     ///
     /// # Errors
     ///
