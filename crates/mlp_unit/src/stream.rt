@@ -31,7 +31,8 @@ pub fn stream_kind(sync: Option<&MajorSync>) -> Kind
     }
 }
 
-/// The sampling rate in hertz of the stream with this first major sync, 44100 to 192000. Where there is none yet it is 0.
+/// The sampling rate in hertz of the stream with this first major sync, 44100 to 192000.
+/// Where there is none yet it is 0.
 pub fn stream_rate(sync: Option<&MajorSync>) -> u32
     requires { FirstUsable (option_copied sync) }
     ensures value { result ≡ stream_rate (option_copied sync.entry) }
