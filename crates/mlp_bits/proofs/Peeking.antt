@@ -5,7 +5,8 @@ use Rattle.std.proofs.Math.Seq.{take-append-add}
 use Rattle.std.proofs.lemmas.Nat.{shl_whole}
 use Rattle.mlp_bits.specs.Bits.{bits_of, number}
 use Rattle.mlp_bits.specs.Cursor.{Cursor, left, peeked}
-use Rattle.mlp_bits.proofs.BitLists.{number-append, length-bits_of}
+use Rattle.mlp_bits.proofs.BitLists.{number-append, length-bits_of, rem_from-parts}
+use Rattle.mlp_bits.specs.Checks.{Modulus, rem_from}
 use Rattle.mlp_bits.proofs.Fields.{number-take}
 use Rattle.mlp_bits.proofs.Words.{bits_of-drop, bits_of-append}
 
@@ -49,3 +50,11 @@ bits_of-between bytes f n le =
     let split : bits_of ys ≡ bits_of (take n ys) ++ bits_of (drop n ys) = ap bits_of (sym (take-append-drop n ys)) ∙ bits_of-append (take n ys) (drop n ys) in
     let len : length (bits_of (take n ys)) ≡ 8 * n = omega (arith, length-bits_of (take n ys), length-take n ys, length-drop f bytes) in
     rw (bits_of-drop bytes f, split) (sym (take_at (bits_of (take n ys)) (bits_of (drop n ys)) (8 * n) len))
+
+-- a remainder by whole bytes, and by the bits on either side of them
+pub rem_from-over : (m : Modulus) (r first start last end : ℕ) (bytes : List ℕ) → first ≤ 8 * start → start ≤ last → 8 * last ≤ end → last ≤ length bytes
+    → rem_from m (rem_from m (rem_from m r (take (8 * start - first) (drop first (bits_of bytes)))) (bits_of (take (last - start) (drop start bytes)))) (take (end - 8 * last) (drop (8 * last) (bits_of bytes)))
+    ≡ rem_from m r (take (end - first) (drop first (bits_of bytes)))
+rem_from-over m r first start last end bytes a b c d =
+    let whole : 8 * (last - start) ≡ 8 * last - 8 * start = omega arith in
+    rw (bits_of-between bytes start (last - start) (omega arith), whole, rem_from-parts m r first (8 * start) (8 * last) (bits_of bytes) a (omega arith)) (rem_from-parts m r first (8 * last) end (bits_of bytes) (omega arith) c)
