@@ -3,6 +3,7 @@ pub mod Assignments
 pub mod Ready
 pub mod Heard
 pub mod Places
+pub mod Sums
 pub mod Filling
 pub mod Outputs
 pub mod Unheard

@@ -1,5 +1,5 @@
--- Frames with their noise, as they stand in ten places.
-use Rattle.std.specs.Prelude.{ℕ, ◌+◌, ◌==◌, ◌≡◌, ◌<◌, ◌≤◌, List, length, slice_index_or, Option, None, is_some, false, if◌then◌else◌, ℤ}
+-- Frames with their noise, as they stand in ten places, and sums over frames.
+use Rattle.std.specs.Prelude.{ℕ, ◌+◌, ◌==◌, ◌≡◌, ◌<◌, ◌≤◌, List, [], ◌∷◌, ◌*◌, ◌%◌, ◌^◌, bit_xor, length, slice_index_or, Option, None, is_some, false, if◌then◌else◌, ℤ}
 use Rattle.mlp_syntax.specs.declared.restart.Restart.{Restart}
 use Rattle.mlp_syntax.specs.declared.params.MatrixRow.{MatrixRow}
 use Rattle.mlp_matrix.specs.Noise.{noisy_each}
@@ -17,3 +17,8 @@ HasNoneBehind m coeffs =
 abbrev pub HearNone : ℕ → List MatrixRow → Type 0
 HearNone m rows = (i : ℕ) (d : MatrixRow) → i < length rows
     → HasNoneBehind m (slice_index_or rows i d).coeffs.items
+
+-- the check of sums without carries, one of whole words for each channel from c on
+abbrev pub check_of_sums : ℕ → List ℕ → ℕ
+check_of_sums c [] = 0
+check_of_sums c (sum ∷ sums) = bit_xor (sum % 2 ^ 24 * 2 ^ c) (check_of_sums (c + 1) sums)

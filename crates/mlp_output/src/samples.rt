@@ -1,30 +1,49 @@
 //! The samples of frames, at their places.
 ghost use Rattle.std.specs.Prelude.{◌≡◌, ◌<◌, ◌≤◌, length, All, map, take, replicate, true, bit_xor};
 ghost use Rattle.mlp_output.specs.Output.{samples_of, placed, check_from, check_of};
+ghost use Rattle.mlp_output.specs.Frames.{check_of_sums};
 
 use mlp_arith::sample24;
 
-/// Puts the samples of one frame at their places, and gives their check.
+/// Puts the samples of one frame at their places, and adds each to the sum of its channel.
 #[inline(always)]
-fn put_frame(shifts: &[u8], assign: &[u8], frame: &[i32; 10], row: &mut [i32; 8]) -> u32
+fn put_frame(
+    shifts: &[u8],
+    assign: &[u8],
+    frame: &[i32; 10],
+    row: &mut [i32; 8],
+    sums: &mut [u32; 8],
+)
     requires shifts { All (λ shift. shift ≤ 7) shifts.now }
     requires places { All (λ a. a ≤ 7) assign.now }
     requires same { length assign.now ≡ length shifts.now }
     requires few { length shifts.now ≤ 8 }
     ensures row { row.new ≡ placed assign.now (samples_of shifts.now frame.now) }
-    ensures check { result ≡ check_from 0 (samples_of shifts.now frame.now) }
+    ensures check { check_of_sums 0 sums.new
+        ≡ bit_xor (check_of_sums 0 sums.old) (check_from 0 (samples_of shifts.now frame.now)) }
 {
     *row = [0; 8];
-    let mut check = 0;
     for c in (0..shifts.len()).rev() {
         let sample = sample24(frame[c], shifts[c]);
         row[usize::from(assign[c])] = sample;
-        check ^= (sample.cast_unsigned() & 0xff_ffff) << c;
+        sums[c] ^= sample.cast_unsigned();
+    }
+}
+
+/// The check of what was summed in each channel.
+#[inline(always)]
+fn check_of_sums(sums: &[u32; 8]) -> u32
+    ensures { result ≡ check_of_sums 0 sums.now }
+{
+    let mut check = 0;
+    for c in (0..8).rev() {
+        check ^= (sums[c] & 0xff_ffff) << c;
     }
     check
 }
 
-/// .. of many frames, and adds them to the check.
+/// Puts the samples of many frames at their places, and adds them to the check. Sums of whole words are cut to 24 bits
+/// once, behind the last frame.
 #[inline(always)]
 fn put_all(
     shifts: &[u8],
@@ -41,11 +60,11 @@ fn put_all(
     ensures rows { rows.new ≡ map (placed assign.now) (map (samples_of shifts.now) frames.now) }
     ensures check { check.new ≡ check_of check.old (map (samples_of shifts.now) frames.now) }
 {
-    let mut running = *check;
+    let mut sums = [0; 8];
     for i in 0..frames.len() {
-        running ^= put_frame(shifts, assign, &frames[i], &mut rows[i]);
+        put_frame(shifts, assign, &frames[i], &mut rows[i], &mut sums);
     }
-    *check = running;
+    *check ^= check_of_sums(&sums);
 }
 
 /// The output channels in order.
@@ -61,7 +80,7 @@ fn are_plain<const C: usize>(shifts: &[u8], assign: &[u8]) -> bool
     shifts == unshifted.as_slice() && assign == &IN_ORDER[..C]
 }
 
-/// .. of `C` channels.
+/// The same as `put_all`, of `C` channels.
 fn put_each<const C: usize>(
     shifts: &[u8],
     assign: &[u8],

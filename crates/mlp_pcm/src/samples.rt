@@ -219,7 +219,26 @@ fn pack_frames<const N: usize>(
     Ok(())
 }
 
-/// The same, with a loop of its own for two channels. Short arrays are cheaper to clear.
+/// The same of two channels. Short arrays are cheaper to clear.
+#[inline]
+fn pack_pairs<const N: usize>(
+    frames: &[[i32; 8]],
+    bits: u8,
+    out: &mut ArrayVec<u8, N>,
+) -> Result<(), u32>
+    requires bits { (bits ≡ 16) ⊎ (bits ≡ 24) }
+    requires few { length frames.now ≤ 160 }
+    requires room { 3840 ≤ N }
+    requires empty { out.old.items ≡ [] }
+    ensures { Packs bits 2 frames.now out.new.items result }
+{
+    if frames.len() <= 40 {
+        return pack_frames(frames, 2, bits, &mut [0; 240], out);
+    }
+    pack_frames(frames, 2, bits, &mut [0; 960], out)
+}
+
+/// The same, with a loop of its own for two channels.
 #[inline]
 #[tactic(auto, using(crate::proofs::Pieces::all_fit))]
 fn pack_channels<const N: usize>(
@@ -236,7 +255,7 @@ fn pack_channels<const N: usize>(
     ensures { Packs bits channels frames.now out.new.items result }
 {
     if channels == 2 {
-        return pack_frames(frames, 2, bits, &mut [0; 960], out);
+        return pack_pairs(frames, bits, out);
     }
     if frames.len() <= 80 {
         return pack_frames(frames, channels, bits, &mut [0; 1920], out);

@@ -1,22 +1,13 @@
-use Rattle.std.proofs.Common.{◌≡◌, ℕ, ◌+◌, ◌-◌, ◌*◌, ◌%◌, ◌^◌, ◌≤◌, ◌<◌, ℤ, pos, ◌*ℤ◌, get_or, length, FitsSigned, w32, to_z, of_z, ap, subst, ◌∙◌, arith, rules, bit_and}
-use Rattle.std.proofs.Math.Nat.{mul-le-mul}
-use Rattle.std.proofs.Math.Pow.{pow_mono}
+use Rattle.std.proofs.Common.{◌≡◌, ℕ, ◌+◌, ◌-◌, ◌^◌, ◌<◌, ℤ, pos, ◌*ℤ◌, get_or, set, bit_xor, length, FitsSigned, w32, to_z, of_z, ap, subst, ◌∙◌, arith, rules}
 use Rattle.std.proofs.lemmas.Int.{to_z-of_z}
-use Rattle.std.proofs.lemmas.Nat.{and_mask}
 use Rattle.mlp_arith.specs.Words.{low24}
+use Rattle.mlp_output.specs.Frames.{check_of_sums}
+use Rattle.mlp_output.proofs.Sums.{part, summed_at}
 use Rattle.mlp_output.proofs.Filling.{IsFilled, filled_more, filled_none, filled_all}
 use Rattle.mlp_output.proofs.samples.put_frame.Goals as goal
 
 pub loop-c-init : goal.loop-c-init
-loop-c-init c = filled_none c.args.shifts.now c.args.assign.now c.args.frame.now (length c.args.shifts.now) (omega arith) (omega (arith, c.requires.same))
-
--- 24 bits, times 2 to at most 7, have 32
-no_bits_lost : (n i : ℕ) → i ≤ 7 → (n % 2 ^ 24) * 2 ^ i % 4294967296 ≡ (n % 2 ^ 24) * 2 ^ i
-no_bits_lost n i le =
-    let p : 2 ^ i ≤ 2 ^ 7 = pow_mono le in
-    let low : n % 2 ^ 24 ≤ 2 ^ 24 - 1 = omega arith in
-    let most : (n % 2 ^ 24) * 2 ^ i ≤ (2 ^ 24 - 1) * 2 ^ 7 = mul-le-mul low p in
-    omega arith
+loop-c-init c = filled_none c.args.shifts.now c.args.assign.now c.args.frame.now (length c.args.shifts.now) (check_of_sums 0 c.args.sums.now) (omega arith) (omega (arith, c.requires.same))
 
 pub loop-c-preserved : goal.loop-c-preserved
 loop-c-preserved c =
@@ -28,15 +19,15 @@ loop-c-preserved c =
     let word : to_z w32 (of_z w32 c.sample24-sample.result) ≡ c.sample24-sample.result = to_z-of_z w32 c.sample24-sample.result (record { sfits = c.sample24-sample.type_inv }) in
     let value : c.sample24-sample.result ≡ low24 (x *ℤ pos (2 ^ get_or c.args.shifts.now i 0)) =
     c.sample24-sample.ensures ∙ ap (λ (z : ℤ). low24 (z *ℤ pos (2 ^ get_or c.args.shifts.now i 0))) (to_z-of_z w32 x fits) in
-    let bits : bit_and c.cast_unsigned.result 16777215 ≡ c.cast_unsigned.result % 2 ^ 24 = and_mask c.cast_unsigned.result 24 in
-    let few : i ≤ 7 = omega (arith, in_range, c.requires.few) in
+    let few : i < length c.loop-c.sums = omega (arith, in_range, c.requires.few) in
     rw c.from.ensures
-    (filled_more c.args.shifts.now c.args.assign.now c.args.frame.now i c.loop-c.row c.loop-c.check (to_z w32 (of_z w32 c.sample24-sample.result)) (bit_and c.cast_unsigned.result 16777215 * 2 ^ i % 4294967296)
+    (filled_more c.args.shifts.now c.args.assign.now c.args.frame.now i c.loop-c.row (check_of_sums 0 c.args.sums.now) (check_of_sums 0 c.loop-c.sums)
+    (check_of_sums 0 (set c.loop-c.sums i (bit_xor (get_or c.loop-c.sums i 0) c.cast_unsigned.result))) (to_z w32 (of_z w32 c.sample24-sample.result))
     in_range (omega (arith, in_range, c.requires.same)) (omega (arith, in_range, c.requires.few, c.told-frame)) (word ∙ value)
-    (ap (λ (n : ℕ). n * 2 ^ i % 4294967296) bits ∙ no_bits_lost c.cast_unsigned.result i few ∙ ap (λ (n : ℕ). n % 2 ^ 24 * 2 ^ i) c.cast_unsigned.ensures)
-    (subst (λ (m : ℕ). IsFilled c.args.shifts.now c.args.assign.now c.args.frame.now m c.loop-c.row c.loop-c.check) next c.loop-c.invariant))
+    (summed_at i c.loop-c.sums c.cast_unsigned.result few ∙ ap (λ (n : ℕ). bit_xor (check_of_sums 0 c.loop-c.sums) (part i n)) c.cast_unsigned.ensures)
+    (subst (λ (m : ℕ). IsFilled c.args.shifts.now c.args.assign.now c.args.frame.now m c.loop-c.row (check_of_sums 0 c.args.sums.now) (check_of_sums 0 c.loop-c.sums)) next c.loop-c.invariant))
 
 pub returns : goal.returns
 returns c =
-    let all = filled_all c.args.shifts.now c.args.assign.now c.args.frame.now c.loop-c.c c.loop-c.row c.loop-c.check c.loop-c-test.false c.loop-c.invariant in
+    let all = filled_all c.args.shifts.now c.args.assign.now c.args.frame.now c.loop-c.c c.loop-c.row (check_of_sums 0 c.args.sums.now) (check_of_sums 0 c.loop-c.sums) c.loop-c-test.false c.loop-c.invariant in
     record { row = all.in_place; check = all.sum }

@@ -3,13 +3,12 @@ use Rattle.mlp_pcm.proofs.samples.pack_channels.Goals as goal
 
 pub returns-then-channels-eq2 : goal.returns-then-channels-eq2
 returns-then-channels-eq2 g c =
-    let e = c.pack_frames.ensures in
-    rw c.if-channels-eq2.true (packs c.args.bits 2 c.args.frames.now c.pack_frames.new.out.items c.pack_frames.result e.ok e.clear e.first e.none)
+    rw c.if-channels-eq2.true c.pack_pairs.ensures
 
 pub returns-then-frames-le80 : goal.returns-then-frames-le80
 returns-then-frames-le80 g c =
-    let e = c.pack_frames-then-frames-le80.ensures in
-    packs c.args.bits c.args.channels c.args.frames.now c.pack_frames-then-frames-le80.new.out.items c.pack_frames-then-frames-le80.result e.ok e.clear e.first e.none
+    let e = c.pack_frames.ensures in
+    packs c.args.bits c.args.channels c.args.frames.now c.pack_frames.new.out.items c.pack_frames.result e.ok e.clear e.first e.none
 
 pub returns : goal.returns
 returns g c =
