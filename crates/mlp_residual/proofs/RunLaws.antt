@@ -1,6 +1,6 @@
 -- Frames read one after the other from words.
 use Rattle.std.proofs.Common.{◌≡◌, ℕ, zero, suc, ◌+◌, ◌-◌, ◌<◌, ◌≤◌, Bool, false, List, [], ◌∷◌, ◌++◌, All, length, replicate, get_or, map, take, Ok, Err, refl, sym, ap, subst, ◌∙◌, arith}
-use Rattle.std.proofs.lemmas.List.{take_all, length-map}
+use Rattle.std.proofs.lemmas.List.{length-map}
 use Rattle.mlp_syntax.specs.declared.fault.Broken.{Broken}
 use Rattle.mlp_syntax.specs.declared.segment.Code.{Code}
 use Rattle.mlp_syntax.specs.declared.segment.FrameCode.{FrameCode}
@@ -55,14 +55,12 @@ pub frame_fails : (k : Coding) (all : List Bool) (p : ℕ) (e : Broken) → All 
 unfolding frame part made
 frame_fails k all p e none h = rw (no_bypass k.bypass.items none all p, h) refl
 
--- the codes of as many channels as there are lookups
-pub of_channels : (n : ℕ) (lookups : List Lookup) (channels : List ChannelCode) (all : List Bool) (p : ℕ) (r : Read (List Code)) → length lookups ≡ n → map channel_of lookups ≡ channels
-    → (series (code_at (map channel_of (take n lookups))) (length (take n lookups)) []).read all p ≡ r → (series (code_at channels) (length channels) []).read all p ≡ r
-of_channels n lookups channels all p r count is h =
-    let whole : take n lookups ≡ lookups = take_all n lookups (omega (arith, count)) in
+-- the codes of the channels that the lookups are of
+pub of_channels : (lookups : List Lookup) (channels : List ChannelCode) (all : List Bool) (p : ℕ) (r : Read (List Code)) → map channel_of lookups ≡ channels
+    → (series (code_at (map channel_of lookups)) (length lookups) []).read all p ≡ r → (series (code_at channels) (length channels) []).read all p ≡ r
+of_channels lookups channels all p r is h =
     let same : length lookups ≡ length channels = sym (length-map lookups channel_of) ∙ ap length is in
-    let here : (series (code_at (map channel_of lookups)) (length lookups) []).read all p ≡ r = subst (λ (ls : List Lookup). (series (code_at (map channel_of ls)) (length ls) []).read all p ≡ r) whole h in
-    let there : (series (code_at (map channel_of lookups)) (length channels) []).read all p ≡ r = subst (λ (m : ℕ). (series (code_at (map channel_of lookups)) m []).read all p ≡ r) same here in
+    let there : (series (code_at (map channel_of lookups)) (length channels) []).read all p ≡ r = subst (λ (m : ℕ). (series (code_at (map channel_of lookups)) m []).read all p ≡ r) same h in
     subst (λ (cs : List ChannelCode). (series (code_at cs) (length channels) []).read all p ≡ r) is there
 
 -- ---- several frames

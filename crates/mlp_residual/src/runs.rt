@@ -4,7 +4,7 @@ ghost use Rattle.mlp_bits.specs.Bits.{bits_of};
 ghost use Rattle.mlp_residual.specs.Lookups.{AreLookups};
 ghost use Rattle.mlp_residual.specs.Frames.{coded_frames};
 
-use crate::ahead::{Lookups, codes_ahead};
+use crate::ahead::{Lookup, Lookups, codes_ahead};
 use crate::frames::Coding;
 use mlp_syntax::{Broken, FrameCode};
 
@@ -13,6 +13,17 @@ fn has_bypass(rows: &[bool]) -> bool
     ensures { result ≡ false ↔ All (λ bypass. bypass ≡ false) rows.now }
 {
     rows.iter().any(|bypass| *bypass)
+}
+
+/// The lookups of N channels in an array, which the loop over the frames keeps in registers.
+#[inline]
+fn lookups_by_value<const N: usize>(lookups: &Lookups) -> [Lookup; N]
+    requires { length lookups.now.channels.items ≡ N }
+    ensures { result ≡ lookups.now.channels.items }
+{
+    let mut channels = [Lookup::default(); N];
+    channels.copy_from_slice(&lookups.channels[..N]);
+    channels
 }
 
 /// The frames of N channels, without bypass bits, up to one that is near the end of the bytes or stands where another
@@ -27,6 +38,7 @@ fn frames_of_channels<const N: usize>(
 ) -> Result<(usize, u32), Broken>
     requires bypass { All (λ bypass. bypass ≡ false) coding.now.bypass.items }
     requires lookups { AreLookups coding.now.channels.items lookups.now }
+    requires few { N ≤ 8 }
     requires count { length lookups.now.channels.items ≡ N }
     requires short { length bytes.now ≤ 8190 }
     requires room { place + lookups.now.room ≤ 8 * length bytes.now }
@@ -36,7 +48,7 @@ fn frames_of_channels<const N: usize>(
         (λ x. (coded_frames coding.now x.0).read (bits_of bytes.now) place ≡ Ok (take x.0 out.new, x.1))
         (λ e. (coded_frames coding.now (length out.old)).read (bits_of bytes.now) place ≡ Err e) }
 {
-    let channels = &lookups.channels[..N];
+    let channels = lookups_by_value::<N>(lookups);
     let last = bytes.len() as u32 * 8 - lookups.room;
     let mut end = place;
     for i in 0..out.len() {
@@ -49,7 +61,7 @@ fn frames_of_channels<const N: usize>(
         let frame = &mut out[i];
         frame.bypass = 0;
         end = codes_ahead(
-            channels,
+            &channels,
             lookups.room,
             bytes,
             end,

@@ -1,6 +1,6 @@
 use Rattle.std.proofs.Common.{◌≡◌, ℕ, ◌+◌, ◌<◌, List, Ok, Err, length, get_or, map, take, ap, sym, subst, ◌∙◌, arith}
 use Rattle.std.proofs.lemmas.Result.{err_from_is_err_and}
-use Rattle.std.proofs.lemmas.List.{take_all, take_more_set}
+use Rattle.std.proofs.lemmas.List.{take_more_set}
 use Rattle.std.specs.Prelude.{slice_set}
 use Rattle.arrayvec.proofs.ArrayVecLemmas.{items-with_items}
 use Rattle.mlp_syntax.specs.declared.segment.Code.{Code}
@@ -26,8 +26,8 @@ returns-in_err-end-clause-read g c =
     let p = err_from_is_err_and c.from_residual.result c.from_residual.ensures.1 in
     let k = c.args.coding.now in
     rw (p.1, p.2) (then_fails k c.loop-i.i (length c.args.out.now) _ c.in_err-end.field-0.0 (bits_of c.args.bytes.now) c.args.place c.loop-i.end c.loop-i-test.true
-    (frame_fails k (bits_of c.args.bytes.now) c.loop-i.end c.in_err-end.field-0.0 c.requires.bypass (of_channels g.row.N c.deref.result.now k.channels.items (bits_of c.args.bytes.now) c.loop-i.end (Err c.in_err-end.field-0.0)
-    (ap (λ (ls : List Lookup). length ls) c.deref.ensures.0 ∙ c.requires.count) (ap (map channel_of) c.deref.ensures.0 ∙ c.requires.lookups.channels_are) c.in_err-end.ensures.read)) c.loop-i.invariant.so_far)
+    (frame_fails k (bits_of c.args.bytes.now) c.loop-i.end c.in_err-end.field-0.0 c.requires.bypass (of_channels c.lookups_by_value-channels.result k.channels.items (bits_of c.args.bytes.now) c.loop-i.end (Err c.in_err-end.field-0.0)
+    (ap (map channel_of) c.lookups_by_value-channels.ensures ∙ c.requires.lookups.channels_are) c.in_err-end.ensures.read)) c.loop-i.invariant.so_far)
 
 pub loop-i-preserved : goal.loop-i-preserved
 loop-i-preserved g c =
@@ -38,12 +38,10 @@ loop-i-preserved g c =
     let new = c.codes_ahead.new.codes in
     let kept : length new ≡ length stood.items = c.codes_ahead.auto.codes ∙ ap (λ (cs : List Code). length cs) c.as_mut_slice.ensures.value in
     let here : c.loop-i.i < length c.loop-i.out = omega arith in
-    let codes = of_channels g.row.N c.deref.result.now k.channels.items all c.loop-i.end _ (ap (λ (ls : List Lookup). length ls) c.deref.ensures.0 ∙ c.requires.count)
-    (ap (map channel_of) c.deref.ensures.0 ∙ c.requires.lookups.channels_are) c.in_ok-end.ensures.read in
+    let codes = of_channels c.lookups_by_value-channels.result k.channels.items all c.loop-i.end _ (ap (map channel_of) c.lookups_by_value-channels.ensures ∙ c.requires.lookups.channels_are) c.in_ok-end.ensures.read in
     let more = one_more k c.loop-i.i (take c.loop-i.i c.loop-i.out) (without_bypass new) all c.args.place c.loop-i.end c.in_ok-end.end (frame_reads k new all c.loop-i.end c.in_ok-end.end c.requires.bypass codes) i.so_far in
     let set = subst (λ (fs : List FrameCode). FramesRead k (c.loop-i.i + 1) fs all c.args.place c.in_ok-end.end) (sym (take_more_set c.loop-i.out c.loop-i.i (without_bypass new) here)) more in
-    let count : length c.deref.result.now ≡ g.row.N = ap (λ (ls : List Lookup). length ls) c.deref.ensures.0 ∙ c.requires.count in
-    let same : most_in (take g.row.N c.deref.result.now) ≡ most_in c.args.lookups.now.channels.items = ap most_in (take_all g.row.N c.deref.result.now (omega (arith, count)) ∙ c.deref.ensures.0) in
+    let same : most_in c.lookups_by_value-channels.result ≡ most_in c.args.lookups.now.channels.items = ap most_in c.lookups_by_value-channels.ensures in
     record {
       from = omega (arith, i.from, c.in_ok-end.ensures.behind.0);
       within = omega (arith, same, c.requires.lookups.enough.codes, c.requires.room, c.if-end-last.false, c.in_ok-end.ensures.behind.1);
