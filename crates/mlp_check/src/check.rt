@@ -10,7 +10,7 @@ use mlp_fifo::Checker;
 use mlp_major::{kind_of, sample_rate};
 use mlp_present::Decoder;
 use mlp_stream::{Refusal, Session};
-use mlp_syntax::{MajorSync, Memory, Outer, UnitBytes};
+use mlp_syntax::{Kind, MajorSync, Memory, Outer, UnitBytes};
 use mlp_unit::stream_rate;
 use std::alloc::Global;
 use std::marker::Model;
