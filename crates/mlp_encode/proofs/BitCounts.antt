@@ -1,22 +1,18 @@
 -- How many bits the parts of a block take.
-use Rattle.std.proofs.Common.{◌≡◌, ℕ, zero, suc, ◌+◌, ◌*◌, ◌<◌, ◌≤◌, Bool, true, false, List, [], ◌∷◌, ◌++◌, drop, map, length, get_or, Option, Some, None, ℤ, refl, sym, ap, ◌∙◌, arith}
-use Rattle.std.specs.Prelude.{◌==◌, is_some}
+use Rattle.std.proofs.Common.{◌≡◌, ℕ, zero, suc, ◌+◌, ◌*◌, ◌<◌, ◌≤◌, Bool, true, false, List, [], ◌∷◌, ◌++◌, drop, map, length, get_or, Option, Some, None, refl, sym, ap, ◌∙◌, arith}
+use Rattle.std.specs.Prelude.{is_some}
 use Rattle.std.specs.List.{range_with_len}
 use Rattle.std.proofs.lemmas.List.{length-append, drop_more, drop_all}
-use Rattle.arrayvec.specs.ArrayVec.{ArrayVec}
 use Rattle.mlp_syntax.specs.declared.major.Kind.{Kind}
-use Rattle.mlp_syntax.specs.declared.params.MatrixRow.{MatrixRow}
 use Rattle.mlp_syntax.specs.declared.restart.Restart.{Restart}
 use Rattle.mlp_syntax.specs.declared.segment.Code.{Code}
 use Rattle.mlp_bits.specs.Bits.{bits}
 use Rattle.mlp_bits.specs.Checks.{restart_check_of}
-use Rattle.mlp_bits.specs.Signed.{unsigned}
-use Rattle.mlp_syntax.specs.declared.fault.Field.TheVariants.{NoiseShift}
 use Rattle.mlp_bits.proofs.BitLists.{length-bits}
-use Rattle.mlp_layout.specs.Layout.{Layout, spelling_as, number_of, seen, ruled, part, made, item}
-use Rattle.mlp_layout.specs.Combined.{must, under, fixed, checked, flag, signed_of, chosen, present, group, times, each, series}
+use Rattle.mlp_layout.specs.Layout.{Layout, number_of, seen, ruled, part, made, item}
+use Rattle.mlp_layout.specs.Combined.{under, fixed, checked, flag, chosen, present, group, times, each, series}
 use Rattle.mlp_params.specs.RestartHeader.{assigned, restart_fields, restart}
-use Rattle.mlp_params.specs.Matrices.{sources, noise_shift_of, row, rows}
+use Rattle.mlp_params.specs.Matrices.{rows}
 use Rattle.mlp_residual.specs.Frames.{bypass_bit, bypass_bits, code, code_at, no_code, unpacked}
 use Rattle.mlp_residual.specs.declared.frames.ChannelCode.{ChannelCode}
 use Rattle.mlp_substream.specs.Restarts.{flags}
@@ -127,66 +123,3 @@ restart_most format r =
     let text = (restart_fields format).spelling r in
     let sum = restart_check_of text in
     omega (arith, fields_most format r, length-append text (bits 8 sum ++ []), length-append (bits 8 sum) [], length-bits 8 sum)
-
--- ---- rows
-
-signed_most : (w : ℕ) (z : ℤ) → length ((signed_of w).spelling z) ≤ w
-unfolding signed_of seen number_of
-signed_most w z = pick (unsigned w z)
-  where
-    pick : (o : Option ℕ) → length (spelling_as (λ n. bits w n) o) ≤ w
-    pick None = omega arith
-    pick (Some n) = let e = length-bits w n in omega (arith, e)
-
-coefficient_most : (w : ℕ) (o : Option ℤ) → length ((group true (signed_of w)).spelling o) ≤ 1 + w
-coefficient_most w None = let e = none_long (signed_of w) in omega (arith, e)
-coefficient_most w (Some z) = let e = some_long (signed_of w) z in omega (arith, e, signed_most w z)
-
-noise_most : (kind n : ℕ) → length ((noise_shift_of kind).spelling n) ≤ 4
-unfolding noise_shift_of chosen made ruled number_of
-noise_most kind n = pick (kind == 0)
-  where
-    pick : (t : Bool) → length ((chosen t (made 0) (ruled (must NoiseShift (λ n. n == 0)) (number_of 4))).spelling n) ≤ 4
-    pick true = omega arith
-    pick false = let e = length-bits 4 n in omega (arith, e)
-
-pub row_most : (r : Restart) (m : MatrixRow) → m.frac ≤ 14 → sources r ≤ 10 → length ((row r).spelling m) ≤ 183
-unfolding row part ruled number_of made
-row_most r m le few =
-    let coeffs = times_most (group true (signed_of (m.frac + 2))) 17 (λ o. let e = coefficient_most (m.frac + 2) o in omega (arith, e, le)) (sources r) m.coeffs.items in
-    let texts = (times (sources r) (group true (signed_of (m.frac + 2)))).spelling m.coeffs.items in
-    let shift = (noise_shift_of r.kind).spelling m.noise_shift in
-    omega (
-      arith,
-      coeffs,
-      few,
-      noise_most r.kind m.noise_shift,
-      flag_long m.bypass,
-      length-bits 4 m.dest,
-      length-bits 4 m.frac,
-      length-append (bits 4 m.dest) (bits 4 m.frac ++ (flag.spelling m.bypass ++ (texts ++ (shift ++ [])))),
-      length-append (bits 4 m.frac) (flag.spelling m.bypass ++ (texts ++ (shift ++ []))),
-      length-append (flag.spelling m.bypass) (texts ++ (shift ++ [])),
-      length-append texts (shift ++ []),
-      length-append shift [],
-    )
-
-abbrev pub AllShort : List MatrixRow → Type 0
-AllShort [] = Unit {0}
-AllShort (m ∷ ms) = (m.frac ≤ 14) × AllShort ms
-
-all_most : (r : Restart) → sources r ≤ 10 → (n : ℕ) (ms : List MatrixRow) → AllShort ms → length ((times n (row r)).spelling ms) ≤ n * 183
-unfolding times item made
-all_most r few zero ms h = omega arith
-all_most r few (suc n) [] h = omega arith
-all_most r few (suc n) (m ∷ ms) h =
-    let rest = all_most r few n ms h.1 in
-    omega (arith, rest, row_most r m h.0 few, length-append ((row r).spelling m) ((times n (row r)).spelling ms))
-
-pub rows_most : (format : Kind) (r : Restart) (ms : List MatrixRow) → sources r ≤ 10 → length ms ≤ 4 → AllShort ms → length ((group true (rows format r)).spelling (Some (record { items = ms }))) ≤ 737
-unfolding rows part ruled number_of made
-rows_most format r ms few count h =
-    let all = all_most r few (length ms) ms h in
-    let texts = (times (length ms) (row r)).spelling ms in
-    let v : ArrayVec MatrixRow = record { items = ms } in
-    omega (arith, all, count, some_long (rows format r) v, length-bits 4 (length ms), length-append (bits 4 (length ms)) (texts ++ []), length-append texts [])

@@ -1,5 +1,5 @@
 -- How many bits a block that is sent takes at most.
-use Rattle.std.proofs.Common.{◌≡◌, ℕ, zero, suc, ◌+◌, ◌-◌, ◌*◌, ◌≤◌, pos, neg_ℤ, Bool, true, false, List, [], ◌∷◌, ◌++◌, drop, map, length, get_or, Option, Some, None, refl, ap, ◌∙◌, subst, arith}
+use Rattle.std.proofs.Common.{◌≡◌, ℕ, zero, suc, ◌+◌, ◌-◌, ◌*◌, ◌≤◌, pos, Bool, true, false, List, [], ◌++◌, drop, map, length, get_or, Option, Some, None, refl, ap, ◌∙◌, subst, arith}
 use Rattle.std.specs.Prelude.{◌==◌, ◌&&◌, not, nat_lt, if◌then◌else◌}
 use Rattle.std.specs.List.{range_with_len, list_any}
 use Rattle.std.proofs.lemmas.List.{length-append, length-map}
@@ -8,7 +8,6 @@ use Rattle.std.proofs.lemmas.Simd.{map-map}
 use Rattle.mlp_syntax.specs.declared.params.ChannelParams.{ChannelParams}
 use Rattle.mlp_syntax.specs.declared.params.MatrixRow.{MatrixRow}
 use Rattle.mlp_syntax.specs.declared.params.Params.{Params}
-use Rattle.mlp_syntax.specs.declared.restart.Restart.{Restart}
 use Rattle.mlp_syntax.specs.declared.segment.Code.{Code}
 use Rattle.mlp_bits.specs.Bits.{bit}
 use Rattle.mlp_bits.proofs.BitLists.{length-bits}
@@ -17,7 +16,7 @@ use Rattle.mlp_layout.specs.Combined.{group, times, listed, each, series}
 use Rattle.mlp_params.specs.declared.state.ChannelState.{ChannelState}
 use Rattle.mlp_params.specs.declared.state.State.{State}
 use Rattle.mlp_params.specs.InForce.{restarted_channel}
-use Rattle.mlp_params.specs.Matrices.{sources, rows}
+use Rattle.mlp_params.specs.Matrices.{rows}
 use Rattle.mlp_params.specs.Parameters.{channel, block_size_of, output_shift, groups, params}
 use Rattle.mlp_predict.specs.Prediction.{Past}
 use Rattle.mlp_residual.specs.Frames.{channel_codes, coding_of, code, code_at, no_code, bypass_bits, codes_in as codes_layout, frame, coded_frames, frames_of}
@@ -26,47 +25,18 @@ use Rattle.mlp_channels.specs.Channels.{channel_at}
 use Rattle.mlp_channels.specs.Playing.{past_of_channel}
 use Rattle.mlp_fold.specs.declared.profile.Profile.{Profile}
 use Rattle.mlp_fold.specs.declared.profile.Mix.{Mix}
-use Rattle.mlp_fold.specs.declared.profile.Mix.TheVariants.{Split, Fold, Bypass, Side}
 use Rattle.mlp_fold.specs.declared.coding.CodedFrame.{CodedFrame}
-use Rattle.mlp_fold.specs.Rows.{row, on, left, right, rows_of, steps_of}
+use Rattle.mlp_fold.specs.Rows.{steps_of}
 use Rattle.mlp_fold.specs.Substreams.{first_channel, last_channel}
 use Rattle.mlp_encode.specs.Numbers.{low_zeros}
 use Rattle.mlp_encode.specs.Coding.{Sent, nothing, column}
 use Rattle.mlp_encode.specs.Blocks.{Force, channel_in, sent_in, size_with, rows_with, steps_with, params_of, bypass_in, frame_code, codes_in}
-use Rattle.mlp_encode.specs.Lawful.{IsSendable}
-use Rattle.mlp_encode.proofs.SentChannels.{last_most}
+use Rattle.mlp_encode.specs.Lawful.{IsSendable, rows_size, bypass_size}
 use Rattle.mlp_encode.proofs.SentBlocks.{after, coding, coding_is, channels, to_last, rows_are}
 use Rattle.mlp_encode.proofs.SentCosts.{channel_cost}
 use Rattle.mlp_encode.proofs.Sums.{sums, sums_most, sums_add, sums_swap, series_long}
-use Rattle.mlp_encode.proofs.BitCounts.{none_long, some_long, times_most, each_long, codes_long, bypass_most, AllShort, rows_most}
-
--- ---- rows
-
-abbrev two : List MatrixRow
-two = row 0 14 false (left (neg_ℤ (pos 11585))) ∷ row 1 14 false (right (neg_ℤ (pos 11585))) ∷ []
-
-abbrev four : List MatrixRow
-four = row 0 14 false (left (neg_ℤ (pos 5793))) ∷ row 1 14 false (right (neg_ℤ (pos 5793))) ∷ row 4 14 false (on ((4, pos 8192) ∷ [])) ∷ row 5 14 false (on ((5, pos 8192) ∷ [])) ∷ []
-
-fold_few : (t : Bool) → (length (if t then two else four) ≤ 4) × AllShort (if t then two else four)
-fold_few true = (omega arith, (omega arith, (omega arith, tt)))
-fold_few false = (omega arith, (omega arith, (omega arith, (omega arith, (omega arith, tt)))))
-
-rows_few : (mix : Mix) (j channels : ℕ) → (length (rows_of mix j channels) ≤ 4) × AllShort (rows_of mix j channels)
-rows_few Split j channels = (omega arith, tt)
-rows_few Fold zero channels = (omega arith, (omega arith, (omega arith, tt)))
-rows_few Fold (suc zero) channels = fold_few (channels == 6)
-rows_few Fold (suc (suc j)) channels = (omega arith, (omega arith, (omega arith, (omega arith, (omega arith, tt)))))
-rows_few Bypass zero channels = (omega arith, tt)
-rows_few Bypass (suc j) channels = (omega arith, (omega arith, (omega arith, (omega arith, (omega arith, tt)))))
-rows_few Side j channels = (omega arith, (omega arith, tt))
-
-sources_few : (r : Restart) → r.max_matrix ≤ 7 → sources r ≤ 10
-sources_few r le = pick (r.kind == 0)
-  where
-    pick : (t : Bool) → r.max_matrix + 1 + (if t then 2 else 0) ≤ 10
-    pick true = omega (arith, le)
-    pick false = omega (arith, le)
+use Rattle.mlp_encode.proofs.BitCounts.{none_long, some_long, times_most, each_long, codes_long}
+use Rattle.mlp_encode.proofs.RowLengths.{rows_most, bypass_few}
 
 -- ---- parameters
 
@@ -89,6 +59,15 @@ unfolding listed part made
 numbers_most m xs =
     let all = times_most (number_of 4) 4 (number_most 4) m xs in
     omega (arith, all, length-append ((times m (number_of 4)).spelling xs) [])
+
+-- the rows and steps that come with a restart, and the flags in their place where none comes
+abbrev pub rows_given : Bool → Mix → ℕ → ℕ
+rows_given true mix j = rows_size mix j
+rows_given false mix j = 1
+
+abbrev pub steps_given : Bool → ℕ → ℕ
+steps_given true j = 1 + 4 * (last_channel j + 1)
+steps_given false j = 1
 
 module _ (j : ℕ) (p : Profile) (restarts : Bool) (s : State) (pasts : List Past) (frames : List CodedFrame) (h : IsSendable j p restarts s frames) where
   abbrev before : Force
@@ -124,21 +103,22 @@ module _ (j : ℕ) (p : Profile) (restarts : Bool) (s : State) (pasts : List Pas
       pick true = let e = none_long (block_size_of s.unit_frames) in omega (arith, e)
       pick false = let e = some_long (block_size_of s.unit_frames) (length frames) in omega (arith, e, length-bits 9 (length frames))
 
-  rows_bits : length ((group true (rows s.format s.restart)).spelling (rows_with j p restarts)) ≤ 737
-  rows_bits = pick (restarts && not (length (rows_of p.mix j p.channels) == 0))
+  rows_bits : length ((group true (rows s.format s.restart)).spelling (rows_with j p restarts)) ≤ rows_given restarts p.mix j
+  rows_bits = pick restarts
     where
-      pick : (t : Bool) → length ((group true (rows s.format s.restart)).spelling (if t then Some (record { items = rows_of p.mix j p.channels }) else None)) ≤ 737
-      pick true = let f = rows_few p.mix j p.channels in rows_most s.format s.restart (rows_of p.mix j p.channels) (sources_few s.restart (omega (arith, h.begun.max_matrix, last_most j))) f.0 f.1
+      pick : (t : Bool) → length ((group true (rows s.format s.restart)).spelling (rows_with j p t)) ≤ rows_given t p.mix j
+      pick true = rows_most s.format s.restart p.mix j p.channels p.depth (record { kind = h.begun.kind; max_matrix = h.begun.max_matrix }) h.shape.shape h.top h.codable.which
       pick false = let e = none_long (rows s.format s.restart) in omega (arith, e)
 
-  steps_bits : length ((group true (listed (s.restart.max + 1) (number_of 4))).spelling (steps_with j p restarts)) ≤ 33
-  steps_bits = pick (restarts && list_any (nat_lt 0) (steps_of p.mix (low_zeros p.depth) j))
+  steps_bits : length ((group true (listed (s.restart.max + 1) (number_of 4))).spelling (steps_with j p restarts)) ≤ steps_given restarts j
+  steps_bits = pick restarts (list_any (nat_lt 0) (steps_of p.mix (low_zeros p.depth) j))
     where
-      pick : (t : Bool) → length ((group true (listed (s.restart.max + 1) (number_of 4))).spelling (if t then Some (record { items = steps_of p.mix (low_zeros p.depth) j }) else None)) ≤ 33
-      pick true =
+      pick : (t some : Bool) → length ((group true (listed (s.restart.max + 1) (number_of 4))).spelling (if t && some then Some (record { items = steps_of p.mix (low_zeros p.depth) j }) else None)) ≤ steps_given t j
+      pick true true =
           let e = some_long (listed (s.restart.max + 1) (number_of 4)) (record { items = steps_of p.mix (low_zeros p.depth) j }) in
-          omega (arith, e, numbers_most (s.restart.max + 1) (steps_of p.mix (low_zeros p.depth) j), h.begun.max, last_most j)
-      pick false = let e = none_long (listed (s.restart.max + 1) (number_of 4)) in omega (arith, e)
+          omega (arith, e, numbers_most (s.restart.max + 1) (steps_of p.mix (low_zeros p.depth) j), h.begun.max)
+      pick true false = let e = none_long (listed (s.restart.max + 1) (number_of 4)) in omega (arith, e)
+      pick false some = let e = none_long (listed (s.restart.max + 1) (number_of 4)) in omega (arith, e)
 
   channels_bits : length ((each (λ c. group true (channel 0xFF c)) (drop s.restart.min s.channels.items)).spelling (map (λ x. x.given) (sent_in j p restarts before frames))) ≡ sums parameters from count
   channels_bits =
@@ -147,7 +127,7 @@ module _ (j : ℕ) (p : Profile) (restarts : Bool) (s : State) (pasts : List Pas
       ∙ ap (λ (gs : List (Option ChannelParams)). length ((each l (drop from s.channels.items)).spelling gs)) (map-map (λ (y : Sent). y.given) sent (range_with_len from count))
       ∙ each_long l s.channels.items restarted_channel (λ (c : ℕ). (sent c).given) from count (channels j p restarts s pasts frames h)
 
-  groups_bits : length ((groups s None 0xFF).spelling written) ≤ 781 + sums parameters from count
+  groups_bits : length ((groups s None 0xFF).spelling written) ≤ 11 + rows_given restarts p.mix j + steps_given restarts j + sums parameters from count
   unfolding groups part made
   groups_bits =
       let a = (group true (block_size_of s.unit_frames)).spelling (size_with s (length frames)) in
@@ -157,7 +137,7 @@ module _ (j : ℕ) (p : Profile) (restarts : Bool) (s : State) (pasts : List Pas
       let e = (each (λ c. group true (channel 0xFF c)) (drop s.restart.min s.channels.items)).spelling (map (λ x. x.given) (sent_in j p restarts before frames)) in
       omega (arith, five_long a b c d e, size_most, rows_bits, none_long (listed (s.restart.max_matrix + 1) output_shift), steps_bits, channels_bits)
 
-  pub params_bits : length ((params s).spelling written) ≤ 782 + sums parameters from count
+  pub params_bits : length ((params s).spelling written) ≤ 12 + rows_given restarts p.mix j + steps_given restarts j + sums parameters from count
   unfolding params part
   params_bits =
       let f : ℕ → List Bool = λ p. (group (bit p 0) (number_of 8)).spelling None ++ (groups s None p).spelling written in
@@ -178,24 +158,24 @@ module _ (j : ℕ) (p : Profile) (restarts : Bool) (s : State) (pasts : List Pas
       ∙ codes_long (coding j p restarts s pasts frames h) (λ (c : ℕ). get_or (sent c).codes i nothing) ks from count 0 [] refl
       (λ d l. let z : 0 + d ≡ d = omega arith in ap (λ (m : ℕ). get_or ks m no_code) z ∙ get_or-map-range_with_len (coding j p restarts s pasts frames h) from count d (from + d) no_code l refl)
 
-  frame_bits : (i : ℕ) → length ((frame (coding_of (after j p restarts s pasts frames h))).spelling (frame_code (after j p restarts s pasts frames h).rows.items (sent_in j p restarts before frames) frames i)) ≤ 4 + sums (λ c. code_bits i c) from count
+  frame_bits : (i : ℕ) → length ((frame (coding_of (after j p restarts s pasts frames h))).spelling (frame_code (after j p restarts s pasts frames h).rows.items (sent_in j p restarts before frames) frames i)) ≤ bypass_size p.mix j + sums (λ c. code_bits i c) from count
   unfolding frame part made
   frame_bits i =
       let t : State = after j p restarts s pasts frames h in
       let bypassed : ℕ = bypass_in t.rows.items (get_or frames i (record { values = []; bypass = 0 })) in
       let a = (bypass_bits (map (λ row. row.bypass) t.rows.items)).spelling bypassed in
       let b = (codes_layout (channel_codes (drop s.restart.min t.channels.items) (drop s.restart.min t.steps.items))).spelling (map (λ (y : Sent). get_or y.codes i nothing) (sent_in j p restarts before frames)) in
-      let few = (rows_few p.mix j p.channels).0 in
-      let rows_there : length t.rows.items ≡ length (rows_of p.mix j p.channels) = ap (λ (ms : List MatrixRow). length ms) (rows_are j p restarts s pasts frames h) in
-      omega (arith, bypass_most (map (λ row. row.bypass) t.rows.items) bypassed, length-map t.rows.items (λ (m : MatrixRow). m.bypass), rows_there, few, all_codes i, length-append a (b ++ []), length-append b [])
+      let few = bypass_few p.mix j p.channels bypassed in
+      let rows_there = ap (λ (ms : List MatrixRow). length ((bypass_bits (map (λ row. row.bypass) ms)).spelling bypassed)) (rows_are j p restarts s pasts frames h) in
+      omega (arith, few, rows_there, all_codes i, length-append a (b ++ []), length-append b [])
 
   frames_sum : (a m : ℕ) → sums (λ i. length ((frame (coding_of (after j p restarts s pasts frames h))).spelling (frame_code (after j p restarts s pasts frames h).rows.items (sent_in j p restarts before frames) frames i))) a m
-      ≤ 4 * m + sums (λ i. sums (λ c. code_bits i c) from count) a m
+      ≤ bypass_size p.mix j * m + sums (λ i. sums (λ c. code_bits i c) from count) a m
   frames_sum a zero = omega arith
   frames_sum a (suc m) = let rest = frames_sum (a + 1) m in omega (arith, rest, frame_bits a)
 
   pub frames_bits : length ((frames_of (after j p restarts s pasts frames h) (length frames)).spelling (codes_in (after j p restarts s pasts frames h).rows.items (sent_in j p restarts before frames) frames))
-      ≤ 4 * length frames + sums (λ c. sums (λ i. code_bits i c) 0 (length frames)) from count
+      ≤ bypass_size p.mix j * length frames + sums (λ c. sums (λ i. code_bits i c) 0 (length frames)) from count
   unfolding frames_of coded_frames
   frames_bits =
       let t : State = after j p restarts s pasts frames h in
@@ -217,7 +197,7 @@ module _ (j : ℕ) (p : Profile) (restarts : Bool) (s : State) (pasts : List Pas
 
   -- parameters and frames
   pub body_bits : length ((params s).spelling written) + length ((frames_of (after j p restarts s pasts frames h) (length frames)).spelling (codes_in (after j p restarts s pasts frames h).rows.items (sent_in j p restarts before frames) frames))
-      ≤ 782 + 4 * length frames + count * (34 + 26 * length frames)
+      ≤ 12 + rows_given restarts p.mix j + steps_given restarts j + bypass_size p.mix j * length frames + count * (34 + 26 * length frames)
   body_bits =
       let f : ℕ → ℕ = λ c. sums (λ i. code_bits i c) 0 (length frames) in
       let both = sums_add parameters f from count in

@@ -21,6 +21,7 @@ pub mod Renewed
 pub mod Sums
 pub mod SentCosts
 pub mod BitCounts
+pub mod RowLengths
 pub mod BlockLengths
 pub mod SegmentLengths
 pub mod SentLength

@@ -132,10 +132,10 @@ pub record HasChannels (j : ℕ) (r : Restart) : Type 0 where
   pub kind : r.kind ≡ noise_kind j
   pub max_matrix : r.max_matrix ≡ last_channel j
 
-abbrev sources_in : ℕ → ℕ
+abbrev pub sources_in : ℕ → ℕ
 sources_in j = last_channel j + 1 + (if noise_kind j == 0 then 2 else 0)
 
-sources_are : (j : ℕ) (r : Restart) → HasChannels j r → sources r ≡ sources_in j
+pub sources_are : (j : ℕ) (r : Restart) → HasChannels j r → sources r ≡ sources_in j
 sources_are j r h = ap (λ (m : ℕ). m + 1 + (if r.kind == 0 then 2 else 0)) h.max_matrix ∙ ap (λ (k : ℕ). last_channel j + 1 + (if k == 0 then 2 else 0)) h.kind
 
 -- a row of substream j

@@ -1,5 +1,5 @@
 -- How many bits a segment that is sent takes at most.
-use Rattle.std.proofs.Common.{◌≡◌, ℕ, zero, suc, ◌+◌, ◌-◌, ◌*◌, ◌%◌, ◌≤◌, Bool, true, false, List, [], ◌∷◌, ◌++◌, take, drop, length, Option, Some, None, refl, sym, ap, ◌∙◌, subst, arith}
+use Rattle.std.proofs.Common.{◌≡◌, ℕ, ◌+◌, ◌-◌, ◌*◌, ◌%◌, ◌≤◌, Bool, true, false, List, [], ◌∷◌, ◌++◌, take, drop, length, Option, Some, None, refl, sym, ap, ◌∙◌, subst, arith}
 use Rattle.std.specs.Prelude.{◌||◌, is_some, IfSome, option_map, if◌then◌else◌}
 use Rattle.std.proofs.lemmas.List.{length-append, length-take-le, length-drop}
 use Rattle.mlp_syntax.specs.declared.major.Kind.{Kind}
@@ -26,15 +26,16 @@ use Rattle.mlp_substream.specs.Segment.{nested, heads_of, codes_of, terminator, 
 use Rattle.mlp_substream.proofs.SegmentLaws.{AllFramesFit, nested-flat, terminator_long}
 use Rattle.mlp_substream.proofs.WritingEnds.{tail_text, segment_spelling}
 use Rattle.mlp_fifo.specs.Pace.{unit_of}
+use Rattle.mlp_fold.specs.declared.profile.Mix.{Mix}
 use Rattle.mlp_fold.specs.declared.profile.Profile.{Profile}
 use Rattle.mlp_fold.specs.declared.coding.CodedFrame.{CodedFrame}
 use Rattle.mlp_fold.specs.Substreams.{first_channel, last_channel}
 use Rattle.mlp_encode.specs.Blocks.{Force, SentBlock, gives, params_with, behind_params, given_in, sent_in, params_of, codes_in, block_sent, segment_of, restarted, restart_sent, later_sent}
-use Rattle.mlp_encode.specs.Lawful.{IsSendable, IsEnd, place_in, segment_most}
+use Rattle.mlp_encode.specs.Lawful.{IsSendable, IsEnd, place_in, bypass_size, segment_size, segment_most}
 use Rattle.mlp_encode.proofs.SentChannels.{codes_in_count}
 use Rattle.mlp_encode.proofs.SentStates.{given_applies}
 use Rattle.mlp_encode.proofs.BitCounts.{flag_long, there_most, flags_most, restart_most}
-use Rattle.mlp_encode.proofs.BlockLengths.{body_bits}
+use Rattle.mlp_encode.proofs.BlockLengths.{rows_given, steps_given, body_bits}
 
 -- ---- a block by its parts
 
@@ -88,8 +89,18 @@ as_block b = record { head = b.head; frames = b.codes }
 abbrev pub channels_of_block : ℕ → ℕ
 channels_of_block j = last_channel j - first_channel j + 1
 
-block_most : (place : Place) (force : Option State) (j : ℕ) (p : Profile) (o : Option Restart) (before : Force) (frames : List CodedFrame) (so_far : ℕ) (due : Bool) → IsSendable j p (is_some o) before.state frames → restarted_at place force o ≡ Some before.state
-    → ((x : Restart) → o ≡ Some x → x.max_matrix ≤ 7) → length ((block place unknown (context_of force so_far due)).spelling (as_block (block_sent j p o before frames))) ≤ 953 + 4 * length frames + channels_of_block j * (34 + 26 * length frames)
+-- the bits of a restart, and of all but the bypassed bits and the channels
+abbrev restart_size : Bool → ℕ → ℕ
+restart_size true j = 121 + 6 * (last_channel j + 1)
+restart_size false j = 0
+
+abbrev head_size : Bool → Mix → ℕ → ℕ
+head_size restarts mix j = 14 + restart_size restarts j + rows_given restarts mix j + steps_given restarts j
+
+block_most : (place : Place) (force : Option State) (j : ℕ) (p : Profile) (o : Option Restart) (before : Force) (frames : List CodedFrame) (so_far : ℕ) (due : Bool) → IsSendable j p (is_some o) before.state frames
+    → restarted_at place force o ≡ Some before.state
+    → ((x : Restart) → o ≡ Some x → x.max_matrix ≡ last_channel j)
+    → length ((block place unknown (context_of force so_far due)).spelling (as_block (block_sent j p o before frames))) ≤ head_size (is_some o) p.mix j + bypass_size p.mix j * length frames + channels_of_block j * (34 + 26 * length frames)
 unfolding block_sent
 block_most place force j p o before frames so_far due h state_is small =
     let s : State = before.state in
@@ -99,7 +110,9 @@ block_most place force j p o before frames so_far due h state_is small =
     let same = ap f is in
     let body = body_bits j p (is_some o) s before.pasts frames h in
     let all = block_parts_most place force o s (given_in j p (is_some o) before frames) (codes_in (behind_params (given_in j p (is_some o) before frames) s).rows.items (sent_in j p (is_some o) before frames) frames) (length frames) so_far due state_is
-    169 (length ((params s).spelling written)) (λ x e. let m = restart_most place.format x in omega (arith, m, small x e)) (λ q e. let eq = ap (λ (y : Params). length ((params s).spelling y)) (given_some (is_some o) written q e) in omega (arith, eq)) in
+    (restart_size (is_some o) j) (length ((params s).spelling written))
+    (λ x e. let m = restart_most place.format x in let some = ap (λ (q : Option Restart). restart_size (is_some q) j) e in omega (arith, m, small x e, some))
+    (λ q e. let eq = ap (λ (y : Params). length ((params s).spelling y)) (given_some (is_some o) written q e) in omega (arith, eq)) in
     omega (arith, all, same, body)
 
 -- ---- one block, and two
@@ -153,24 +166,15 @@ segment_by place force s end =
       length-bits 8 (check_of text),
     )
 
-abbrev pub bits_most : ℕ → ℕ → ℕ
-bits_most j unit = 1971 + 4 * unit + channels_of_block j * (68 + 26 * unit)
-
-within : (j unit : ℕ) → j ≤ 2 → 40 ≤ unit → bits_most j unit ≤ (last_channel j + 1 - first_channel j) * (68 + 59 * unit) + 4 * unit + 926
-within zero unit h le = omega (arith, le)
-within (suc zero) unit h le = omega (arith, le)
-within (suc (suc zero)) unit h le = omega (arith, le)
-within (suc (suc (suc j))) unit h le = absurd (omega (arith, h))
-
 module _ (j : ℕ) (p : Profile) (which : j ≤ 2) (frames : List CodedFrame) (t : Option ℕ) (count : length frames ≡ unit_of p.rate) (long : 40 ≤ unit_of p.rate) (end : IsEnd p t) where
-  no_restart : (x : Restart) → None ≡ Some x → x.max_matrix ≤ 7
+  no_restart : (x : Restart) → None ≡ Some x → x.max_matrix ≡ last_channel j
   no_restart x e = absurd cc
 
   codes_count : (o : Option Restart) (before : Force) (fs : List CodedFrame) → length (block_sent j p o before fs).codes ≡ (block_sent j p o before fs).head.frames
   unfolding block_sent
   codes_count o before fs = codes_in_count (behind_params (given_in j p (is_some o) before fs) before.state).rows.items (sent_in j p (is_some o) before fs) fs
 
-  pub later_bits : (before : Force) → IsSendable j p false before.state frames → length ((segment (place_in p false) unknown (Some before.state) true).spelling (later_sent j p before frames t).segment) ≤ bits_most j (unit_of p.rate)
+  pub later_bits : (before : Force) → IsSendable j p false before.state frames → length ((segment (place_in p false) unknown (Some before.state) true).spelling (later_sent j p before frames t).segment) ≤ segment_size p.mix j (unit_of p.rate)
   unfolding later_sent heads_of codes_of AllFramesFit
   later_bits before h =
       let b : SentBlock = block_sent j p None before frames in
@@ -181,15 +185,17 @@ module _ (j : ℕ) (p : Profile) (which : j ≤ 2) (frames : List CodedFrame) (t
       let most = block_most place force j p None before frames 0 false h refl no_restart in
       let text = segment_by place force (segment_of (b ∷ []) t) end.fits in
       let unit : length frames ≡ unit_of p.rate = count in
-      let product = ap (λ (n : ℕ). channels_of_block j * (34 + 26 * n)) unit in
+      let product = ap (λ (n : ℕ). bypass_size p.mix j * n + channels_of_block j * (34 + 26 * n)) unit in
       omega (arith, text, same, most, one_long place (first_context place force) (as_block b), unit, product)
 
-  both : (m unit a b x y : ℕ) → a ≡ 8 → a + b ≡ unit → x ≤ 953 + 4 * a + m * (34 + 26 * a) → y ≤ 953 + 4 * b + m * (34 + 26 * b) → x + y + 65 ≤ 1971 + 4 * unit + m * (68 + 26 * unit)
-  both m unit a b x y ea eu hx hy =
+  both : (m k unit a b x y hx hy : ℕ) → a ≡ 8 → a + b ≡ unit → x ≤ hx + k * a + m * (34 + 26 * a) → y ≤ hy + k * b + m * (34 + 26 * b) → x + y ≤ hx + hy + k * unit + m * (68 + 26 * unit)
+  both m k unit a b x y hx hy ea eu le1 le2 =
       let first = ap (λ (n : ℕ). m * (34 + 26 * n)) ea in
+      let bypassed = ap (λ (n : ℕ). k * n) ea in
       let sum : unit ≡ 8 + b = omega (arith, ea, eu) in
       let all = ap (λ (n : ℕ). m * (68 + 26 * n)) sum in
-      omega (arith, hx, hy, ea, sum, first, all)
+      let every = ap (λ (n : ℕ). k * n) sum in
+      omega (arith, le1, le2, ea, sum, first, all, bypassed, every)
 
   leaves : (force : Option State) (o : Option Restart) (before : Force) (fs : List CodedFrame) → restarted_at (place_in p true) force o ≡ Some before.state
       → after_head (place_in p true) force (block_sent j p o before fs).head ≡ Some (block_sent j p o before fs).behind.state
@@ -197,8 +203,8 @@ module _ (j : ℕ) (p : Profile) (which : j ≤ 2) (frames : List CodedFrame) (t
   leaves force o before fs e = ap (λ (f : Option State). option_map (given (given_in j p (is_some o) before fs)) f) e
 
   pub restart_bits : (force : Option State) (r : Restart) (pasts : List Past) → IsSendable j p true (restarted j p r pasts).state (take 8 frames)
-      → IsSendable j p false (block_sent j p (Some r) (restarted j p r pasts) (take 8 frames)).behind.state (drop 8 frames) → r.max_matrix ≤ 7
-      → length ((segment (place_in p true) unknown force true).spelling (restart_sent j p r pasts frames t).segment) ≤ bits_most j (unit_of p.rate)
+      → IsSendable j p false (block_sent j p (Some r) (restarted j p r pasts) (take 8 frames)).behind.state (drop 8 frames) → r.max_matrix ≡ last_channel j
+      → length ((segment (place_in p true) unknown force true).spelling (restart_sent j p r pasts frames t).segment) ≤ segment_size p.mix j (unit_of p.rate)
   unfolding restart_sent heads_of codes_of AllFramesFit
   restart_bits force r pasts h1 h2 small =
       let begun : Force = restarted j p r pasts in
@@ -207,15 +213,15 @@ module _ (j : ℕ) (p : Profile) (which : j ≤ 2) (frames : List CodedFrame) (t
       let place : Place = place_in p true in
       let blocks = nested-flat (as_block a ∷ as_block b ∷ []) (codes_count (Some r) begun (take 8 frames), (codes_count None a.behind (drop 8 frames), tt)) in
       let same = ap (λ (xs : List Block). length ((blocks_from place unknown most_blocks (first_context place force)).spelling xs)) blocks in
-      let first = block_most place force j p (Some r) begun (take 8 frames) 0 true h1 refl (λ x e. let same : r ≡ x = cc in subst (λ (y : Restart). y.max_matrix ≤ 7) same small) in
+      let first = block_most place force j p (Some r) begun (take 8 frames) 0 true h1 refl (λ x e. let same : r ≡ x = cc in subst (λ (y : Restart). y.max_matrix ≡ last_channel j) same small) in
       let behind = leaves force (Some r) begun (take 8 frames) refl in
       let second = block_most place (after_head place force a.head) j p None a.behind (drop 8 frames) (0 + a.head.frames) false h2 behind no_restart in
       let text = segment_by place force (segment_of (a ∷ b ∷ []) t) end.fits in
       let n1 = length-take-le 8 frames (omega (arith, count, long)) in
       let n2 = length-drop 8 frames in
       let sum : length (take 8 frames) + length (drop 8 frames) ≡ unit_of p.rate = omega (arith, n1, n2, count, long) in
-      let most = both (channels_of_block j) (unit_of p.rate) (length (take 8 frames)) (length (drop 8 frames)) _ _ n1 sum first second in
+      let most = both (channels_of_block j) (bypass_size p.mix j) (unit_of p.rate) (length (take 8 frames)) (length (drop 8 frames)) _ _ (head_size true p.mix j) (head_size false p.mix j) n1 sum first second in
       omega (arith, text, same, most, two_long place (first_context place force) (as_block a) (as_block b))
 
-  pub bytes_there : (n : ℕ) → n % 8 ≡ 0 → n ≤ bits_most j (unit_of p.rate) → n ≤ 8 * segment_most p j
-  bytes_there n e le = omega (arith, e, le, within j (unit_of p.rate) which long)
+  pub bytes_there : (n : ℕ) → n % 8 ≡ 0 → n ≤ segment_size p.mix j (unit_of p.rate) → n ≤ 8 * segment_most p j
+  bytes_there n e le = omega (arith, e, le)

@@ -5,14 +5,13 @@ use Rattle.std.specs.Option.{IsSomeAnd}
 use Rattle.std.proofs.lemmas.List.{length-append}
 use Rattle.mlp_bits.specs.Bits.{bits, bits_of, number}
 use Rattle.mlp_bits.proofs.ReadBack.{number-of}
-use Rattle.mlp_params.proofs.RestartRanges.{ranges}
 use Rattle.mlp_substream.specs.Blocks.{first_context}
 use Rattle.mlp_substream.proofs.WritingEnds.{tail_words, has_tail, with_checks, segment_spelling}
 use Rattle.mlp_fifo.specs.Pace.{unit_of}
 use Rattle.mlp_encode.proofs.SentChannels.{first_last}
 use Rattle.mlp_encode.proofs.SentSegments.{unit_least, part_all, part_first, part_later, later_sendable, fresh_sendable, behind_in_force}
 use Rattle.mlp_encode.proofs.SentThere.{sent_there}
-use Rattle.mlp_encode.proofs.SegmentLengths.{bits_most, later_bits, restart_bits, bytes_there}
+use Rattle.mlp_encode.proofs.SegmentLengths.{later_bits, restart_bits, bytes_there}
 use Rattle.mlp_bits.proofs.BitLists.{bits_of-cons, length-bits, length-bits_of}
 use Rattle.mlp_syntax.specs.declared.restart.Restart.{Restart}
 use Rattle.mlp_syntax.specs.declared.segment.Segment.{Segment}
@@ -25,7 +24,7 @@ use Rattle.mlp_substream.proofs.CheckLaws.{AreBytes, bytes_of-bits}
 use Rattle.mlp_fold.specs.declared.profile.Profile.{Profile}
 use Rattle.mlp_fold.specs.declared.coding.CodedFrame.{CodedFrame}
 use Rattle.mlp_encode.specs.Blocks.{Force, SentBlock, block_sent, restarted, restart_sent, later_sent, segment_sent}
-use Rattle.mlp_encode.specs.Lawful.{SendsSegment, IsSentSegment, IsEnd, place_in, segment_most}
+use Rattle.mlp_encode.specs.Lawful.{SendsSegment, IsSentSegment, IsEnd, place_in, segment_size, segment_most}
 
 -- it is whole words
 pub whole_words : (place : Place) (force : Option State) (s : Segment) (checked : Bool) → (segment place unknown force checked).Fits s → length ((segment place unknown force checked).spelling s) % 16 ≡ 0
@@ -43,7 +42,7 @@ in_bytes n e = omega (arith, e)
 
 module _ (j : ℕ) (p : Profile) (pasts : List Past) (frames : List CodedFrame) (t : Option ℕ) (end : IsEnd p t) (made : Segment) (after : Option State) (ps : List Past) where
   bits_there : (o : Option Restart) (state : Option State) → SendsSegment p j o state frames → IsSomeAnd (segment_sent j p o state pasts frames t) (λ s. IsSentSegment s made after ps)
-      → length ((segment (place_in p (is_some o)) unknown state made.checked).spelling made) ≤ bits_most j (unit_of p.rate)
+      → length ((segment (place_in p (is_some o)) unknown state made.checked).spelling made) ≤ segment_size p.mix j (unit_of p.rate)
   unfolding restart_sent later_sent
   bits_there None None h m = absurd (let t : false ≡ true = h.there refl in cc)
   bits_there None (Some s) h m =
@@ -58,8 +57,7 @@ module _ (j : ℕ) (p : Profile) (pasts : List Past) (frames : List CodedFrame) 
       let h1 = fresh_sendable p j (take 8 frames) h.which h.shape h.top (part_first p frames h.frames) r (omega (arith, le, h.restarts.min, h.restarts.max)) h.restarts in
       let first : SentBlock = block_sent j p (Some r) begun (take 8 frames) in
       let h2 = later_sendable p j (drop 8 frames) h.which h.shape h.top (part_later p frames h.frames) first.behind.state (behind_in_force j p (Some r) begun (take 8 frames) h1) in
-      let range = ranges p.kind r h.restarts.allowed in
-      let most = restart_bits j p h.which frames t h.frames.count (unit_least p.rate) end state r pasts h1 h2 (omega (arith, range.same, range.at_most_7)) in
+      let most = restart_bits j p h.which frames t h.frames.count (unit_least p.rate) end state r pasts h1 h2 h.restarts.max_matrix in
       let same = ap (λ (x : Segment). length ((segment (place_in p true) unknown state x.checked).spelling x)) m.segment_is in
       omega (arith, same, most)
 

@@ -17,6 +17,8 @@ use Rattle.mlp_substream.specs.declared.known.Place.{Place}
 use Rattle.mlp_substream.specs.Segment.{terminator}
 use Rattle.mlp_substream.specs.Blocks.{FitsPlace}
 use Rattle.mlp_fifo.specs.Pace.{unit_of}
+use Rattle.mlp_fold.specs.declared.profile.Mix.{Mix}
+use Rattle.mlp_fold.specs.declared.profile.Mix.TheVariants.{Split, Fold, Bypass, Side}
 use Rattle.mlp_fold.specs.declared.profile.Profile.{Profile}
 use Rattle.mlp_fold.specs.Profile.{checked, AreMixed}
 use Rattle.mlp_fold.specs.Mix.{channels_of}
@@ -101,10 +103,34 @@ pub record IsEnd (p : Profile) (t : Option ℕ) : Type 0 where
 abbrev pub place_in : Profile → Bool → Place
 place_in p sync = record { format = p.kind; unit_frames = unit_of p.rate; major = sync }
 
+-- the bits of the rows of substream j, with their presence and their number
+abbrev pub rows_size : Mix → ℕ → ℕ
+rows_size Split j = 1
+rows_size Fold zero = 63
+rows_size Fold (suc zero) = 201
+rows_size Fold (suc (suc j)) = 249
+rows_size Bypass zero = 1
+rows_size Bypass (suc j) = 81
+rows_size Side j = 22
+
+-- the bypassed bits of a frame
+abbrev pub bypass_size : Mix → ℕ → ℕ
+bypass_size Split j = 0
+bypass_size Fold j = 0
+bypass_size Bypass zero = 0
+bypass_size Bypass (suc j) = 4
+bypass_size Side j = 0
+
+-- a segment has no more bits: the heads of two blocks, a restart with rows and steps, the bypassed bits, of each
+-- channel the parameters of two blocks and the codes, and what stands behind the blocks
+abbrev pub segment_size : Mix → ℕ → ℕ → ℕ
+segment_size mix j frames =
+    217 + 10 * (last_channel j + 1) + rows_size mix j + bypass_size mix j * frames
+    + (last_channel j - first_channel j + 1) * (68 + 26 * frames)
+
 -- a segment of substream j has no more bytes
 abbrev pub segment_most : Profile → ℕ → ℕ
-segment_most p j =
-    ((last_channel j + 1 - first_channel j) * (68 + 59 * unit_of p.rate) + 4 * unit_of p.rate + 926) / 8
+segment_most p j = segment_size p.mix j (unit_of p.rate) / 8
 
 -- the segments of the first substreams, and of all
 abbrev pub segments_to : Profile → ℕ → ℕ
