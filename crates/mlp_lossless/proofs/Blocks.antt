@@ -1,6 +1,6 @@
 -- A block that was sent gives back the samples of its channels.
 use Rattle.std.proofs.Common.{◌≡◌, ℕ, zero, suc, ◌+◌, ◌-◌, ◌<◌, ◌≤◌, ℤ, pos, Bool, true, List, [], ◌∷◌, ◌++◌, map, length, take, drop, get_or, Option, Some, None, refl, sym, ap, ◌∙◌, subst, arith, append_assoc}
-use Rattle.std.specs.Prelude.{not}
+use Rattle.std.specs.Prelude.{not, is_some}
 use Rattle.std.specs.List.{range_with_len}
 use Rattle.std.proofs.Math.ListN.{get_or-append}
 use Rattle.std.proofs.lemmas.List.{length-append, length-drop, length-map, length-take-le, drop_more, drop_all, get_or-append-add, get_or-map}
@@ -18,7 +18,7 @@ use Rattle.mlp_params.specs.Applied.{channel_applied}
 use Rattle.mlp_predict.specs.Prediction.{Past, zeros}
 use Rattle.mlp_predict.specs.Filters.{filters_of}
 use Rattle.mlp_predict.specs.Outputs.{Frame, outputs_from, past_from, block_of, with_state_first}
-use Rattle.mlp_residual.specs.Block.{no_value, residual_in}
+use Rattle.mlp_residual.specs.Block.{no_value, code_in, residual_in}
 use Rattle.mlp_residual.specs.Coding.{residual_of}
 use Rattle.mlp_residual.specs.declared.block.ResidualCoding.{ResidualCoding}
 use Rattle.mlp_substream.specs.Blocks.{given}
@@ -35,9 +35,10 @@ use Rattle.mlp_encode.specs.Blocks.{Force, bypass_in, frame_code, codes_in, chan
 use Rattle.mlp_encode.specs.Lawful.{IsSendable}
 use Rattle.mlp_encode.proofs.SentChannels.{first_last, last_most}
 use Rattle.mlp_encode.proofs.SentCodes.{map_equal, codes_count}
+use Rattle.mlp_lossless.specs.Chosen.{Basis, given_to, IsLeastFor, basis_of, IsLeastBlock}
 use Rattle.mlp_lossless.proofs.Pasts.{replaced_below, replaced_above}
-use Rattle.mlp_lossless.proofs.Channels.{CanSend, codes_give, outputs_back, past_back}
-use Rattle.mlp_lossless.proofs.Given.{given_channel, state_given_is, with_channel, behind_with}
+use Rattle.mlp_lossless.proofs.Channels.{CanSend, least_for, codes_give, outputs_back, past_back}
+use Rattle.mlp_lossless.proofs.Given.{state_given_is, with_channel, behind_with}
 use Rattle.mlp_lossless.proofs.InForce.{restart_behind, rows_behind, steps_behind}
 
 -- ---- a value of each frame
@@ -55,15 +56,26 @@ map_over {A} {B} {C} f g (x ∷ xs) = ap (λ (ys : List C). f (g x) ∷ ys) (map
 no_sent : Sent
 no_sent = record { given = None; codes = []; past = zeros 8 4 }
 
--- what the codes of one channel spell, in frames that have those of several
+same_all : {A : Type 0} (xs : List A) → map (λ x. x) xs ≡ xs
+same_all [] = refl
+same_all {A} (x ∷ xs) = ap (λ (ys : List A). x ∷ ys) (same_all xs)
+
+-- the codes of one channel in frames that have those of several
+column_is : (rows : List MatrixRow) (channels : List Sent) (frames : List CodedFrame) (i : ℕ) (x : Sent) → i < length channels → get_or channels i no_sent ≡ x → length x.codes ≡ length frames
+    → map (code_in i) (codes_in rows channels frames) ≡ x.codes
+column_is rows channels frames i x lt is n =
+    map_over (code_in i) (frame_code rows channels frames) (range_with_len 0 (length frames))
+    ∙ map_equal (λ m. code_in i (frame_code rows channels frames m)) (λ m. get_or x.codes m nothing) (range_with_len 0 (length frames))
+    (λ m. get_or-map (λ (y : Sent). get_or y.codes m nothing) channels i no_sent no_value lt ∙ ap (λ (y : Sent). get_or y.codes m nothing) is)
+    ∙ over_range (λ (c : Code). c) nothing x.codes 0 (length frames) (omega (arith, n))
+    ∙ same_all x.codes
+
+-- .. and what they spell
 column_codes : (rows : List MatrixRow) (channels : List Sent) (frames : List CodedFrame) (k : ResidualCoding) (i : ℕ) (x : Sent) → i < length channels → get_or channels i no_sent ≡ x → length x.codes ≡ length frames
     → map (residual_in k i) (codes_in rows channels frames) ≡ map (residual_of k.book k.low k.offset k.step) x.codes
 column_codes rows channels frames k i x lt is n =
     let f : Code → ℤ = residual_of k.book k.low k.offset k.step in
-    map_over (residual_in k i) (frame_code rows channels frames) (range_with_len 0 (length frames))
-    ∙ map_equal (λ m. residual_in k i (frame_code rows channels frames m)) (λ m. f (get_or x.codes m nothing)) (range_with_len 0 (length frames))
-    (λ m. ap f (get_or-map (λ (y : Sent). get_or y.codes m nothing) channels i no_sent no_value lt ∙ ap (λ (y : Sent). get_or y.codes m nothing) is))
-    ∙ over_range f nothing x.codes 0 (length frames) (omega (arith, n))
+    sym (map_over f (code_in i) (codes_in rows channels frames)) ∙ ap (map f) (column_is rows channels frames i x lt is n)
 
 -- ---- the block
 
@@ -108,7 +120,7 @@ module _ (j : ℕ) (p : Profile) (restarts : Bool) (before : Force) (frames : Li
         let n = length-map-range_with_len (channel_in j before (steps_of p.mix (low_zeros p.depth) j) (not restarts) frames) (first_channel j) (last_channel j - first_channel j + 1) in
         omega (arith, from, to, n)
 
-    given_there : given_channel (given_in j p restarts before frames) i ≡ x.given
+    given_there : given_to (given_in j p restarts before frames) i ≡ x.given
     given_there =
         with_channel restarts all i
         ∙ get_or-map (λ (y : Sent). y.given) (sent_in j p restarts before frames) i no_sent None i_below
@@ -123,7 +135,7 @@ module _ (j : ℕ) (p : Profile) (restarts : Bool) (before : Force) (frames : Li
         let lt : first_channel j + i < length before.state.channels.items = omega (arith, n, h.begun.max, from, to) in
         let some : i < length all.channels.items = omega (arith, i_below, length-map (sent_in j p restarts before frames) (λ (y : Sent). y.given)) in
         let e = behind_with restarts all before.state (first_channel j) i h.begun.min lt some in
-        subst (λ (k : ℕ). channel_at behind k ≡ channel_applied (channel_at before.state k) (given_channel (given_in j p restarts before frames) i)) at_c e
+        subst (λ (k : ℕ). channel_at behind k ≡ channel_applied (channel_at before.state k) (given_to (given_in j p restarts before frames) i)) at_c e
         ∙ ap (λ (o : Option ChannelParams). channel_applied (channel_at before.state c) o) given_there
 
     step_behind : step_at behind c ≡ get_or (steps_of p.mix (low_zeros p.depth) j) c 0
@@ -214,6 +226,31 @@ module _ (j : ℕ) (p : Profile) (restarts : Bool) (before : Force) (frames : Li
         ∙ ap (λ (rs : List ℤ). past_from 8 4 past (with_state_first (state_of_channel x.given) (block_of (filters_of k.fir k.iir) step rs))) (codes_give (channel_at before.state c) past step (not restarts) (column c frames) can)
         ∙ past_back (channel_at before.state c) past step (not restarts) (column c frames) can some
         ∙ sym past_there
+
+    -- the block is the least choice for them
+    pub block_least : (head : BlockHead) (rows : List MatrixRow) → head.params ≡ given_in j p restarts before frames → is_some head.restart ≡ restarts
+        → IsLeastBlock (Some before.state) past c head (codes_in rows (sent_in j p restarts before frames) frames)
+    block_least head rows e r =
+        let codes : List FrameCode = codes_in rows (sent_in j p restarts before frames) frames in
+        let k : ChannelState = channel_at before.state c in
+        let step : ℕ = get_or (steps_of p.mix (low_zeros p.depth) j) c 0 in
+        let long = codes_count k past step (not restarts) (column c frames) ∙ length-map frames _ in
+        let step_is : step_at (given head.params before.state) c ≡ step = ap (λ (o : Option Params). step_at (given o before.state) c) e ∙ step_behind in
+        let outputs : outputs_from 8 4 past (block_frames (Some (given head.params before.state)) head c codes) ≡ column c frames =
+        ap (λ (o : Option Params). outputs_from 8 4 past (block_frames (Some (given o before.state)) head c codes)) e ∙ block_outputs head rows e in
+        let written : given_to head.params (c - before.state.restart.min) ≡ x.given =
+        ap (λ (o : Option Params). given_to o (c - before.state.restart.min)) e ∙ ap (λ (m : ℕ). given_to (given_in j p restarts before frames) (c - m)) h.begun.min ∙ given_there in
+        let spelled : map (code_in (c - before.state.restart.min)) codes ≡ x.codes =
+        ap (λ (m : ℕ). map (code_in (c - m)) codes) h.begun.min ∙ column_is rows (sent_in j p restarts before frames) frames i x i_below x_there long in
+        let basis : ℕ → Bool → List ℤ → Basis = λ step filters samples. record { force = k; past = past; step = step; filters = filters; samples = samples } in
+        let here : Basis = basis_of before.state (given head.params before.state) past c head codes in
+        let same : basis step (not restarts) (column c frames) ≡ here =
+        ap (λ (n : ℕ). basis n (not restarts) (column c frames)) (sym step_is)
+        ∙ ap (λ (t : Bool). basis (step_at (given head.params before.state) c) (not t) (column c frames)) (sym r)
+        ∙ ap (λ (ys : List ℤ). basis (step_at (given head.params before.state) c) (not (is_some head.restart)) ys) (sym outputs) in
+        subst (λ (cs : List Code). IsLeastFor here (given_to head.params (c - before.state.restart.min)) cs) (sym spelled)
+        (subst (λ (g : Option ChannelParams). IsLeastFor here g x.codes) (sym written)
+        (subst (λ (b : Basis). IsLeastFor b x.given x.codes) same (least_for k past step (not restarts) (column c frames) can)))
 
   first_most : first_channel j ≤ 8
   first_most = let le = first_last j h.codable.which in let l = last_most j in omega (arith, le, l)

@@ -37,6 +37,8 @@ use Rattle.mlp_search.proofs.SearchLaws.{words_from}
 use Rattle.mlp_encode.specs.Coding.{Sent, nothing, code_by, code_of, past_with, residuals, written, channel_sent}
 use Rattle.mlp_encode.proofs.CodingLaws.{given_is, book_behind, low_behind, offset_behind, state_behind}
 use Rattle.mlp_encode.proofs.SentCodes.{codes_count}
+use Rattle.mlp_encode.proofs.ChannelFits.{is, there as choice_there}
+use Rattle.mlp_lossless.specs.Chosen.{IsLeastFor}
 
 -- ---- codes
 
@@ -139,6 +141,20 @@ module _ (force : ChannelState) (past : Past) (step : ℕ) (filters : Bool) (sam
   iir_few =
       let p = pair_there force step samples c.filter costs.pair h.state costs.there in
       subst (λ (f : Filters). length f.iir ≤ 4) (sym filters_are) (omega (arith, length-scaled costs.pair.iir.coeff_shift costs.pair.iir.coeffs.items, order_most 4 false costs.pair.iir p.iir))
+
+  -- it is the least choice
+  pub least_for : IsLeastFor (record { force = force; past = past; step = step; filters = filters; samples = samples }) x.given x.codes
+  least_for =
+      let of_choice = is force past step filters samples h.state h.small h.few h.whole h.no_fir h.no_iir in
+      let cost = choice_there force past step filters samples h.state h.small h.few h.whole h.no_fir h.no_iir in
+      record {
+        choice = chosen force past step filters samples;
+        least = chosen_least force past step filters samples h.state h.small h.few h.whole h.no_fir h.no_iir;
+        written_is = ap (λ (s : Sent). s.given) of_choice;
+        pair = cost.pair;
+        pair_is = cost.there;
+        codes_are = ap (λ (s : Sent). s.codes) of_choice;
+      }
 
   -- its codes have the residuals of its samples
   pub codes_give : map (residual_of behind.book (behind.low - step) behind.offset step) x.codes ≡ rs

@@ -1,5 +1,5 @@
 -- The segments that are sent stand in a unit as a decoder finds them.
-use Rattle.std.proofs.Common.{◌≡◌, ℕ, zero, suc, ◌+◌, ◌-◌, ◌*◌, ◌≤◌, Bool, true, List, [], ◌∷◌, ◌++◌, length, take, drop, get_or, Option, Some, None, refl, sym, ap, ◌∙◌, subst, arith}
+use Rattle.std.proofs.Common.{◌≡◌, ℕ, zero, suc, ◌+◌, ◌-◌, ◌*◌, ◌≤◌, Bool, true, List, [], ◌∷◌, ◌++◌, map, length, take, drop, get_or, Option, Some, None, refl, sym, ap, ◌∙◌, subst, arith}
 use Rattle.std.specs.Prelude.{All, IfSome, is_some}
 use Rattle.std.proofs.lemmas.Bool.{eqb-true}
 use Rattle.std.proofs.lemmas.List.{length-append, get_or-drop}
@@ -18,6 +18,7 @@ use Rattle.mlp_substream.proofs.KnownLaws.{known_text, known_allowed}
 use Rattle.mlp_channels.specs.Channels.{Coded, nothing_coded}
 use Rattle.mlp_contents.specs.Known.{first_restart, known}
 use Rattle.mlp_contents.specs.Units.{coded_at, is_checked, portion}
+use Rattle.mlp_lossless.specs.Chosen.{block_sizes}
 use Rattle.mlp_lossless.proofs.AsKnown.{IsRestartOf, AreRestarted, EndsAs, IsBegun, as_known}
 
 -- what holds of the segment of substream i: it is allowed where nothing is known of other segments, it begins with this
@@ -27,6 +28,8 @@ pub record Stands (place : Place) (restarts : ℕ → Option Restart) (terminato
   pub begun : IsBegun i (restarts i) s.blocks.items
   pub count : length s.codes.items ≡ place.unit_frames
   pub end : s.terminator ≡ terminator
+  pub padding : s.padding ≡ 0
+  pub sizes : map (λ h. h.frames) s.blocks.items ≡ block_sizes place.major place.unit_frames
   pub matrix : IfSome (restarts i) (λ r. IfSome x.force (λ t. r.max_matrix ≡ t.restart.max_matrix))
   pub lossless : i ≡ last → IfSome (restarts i) (λ r. IfSome x.force (λ t. r.lossless ≡ check))
 

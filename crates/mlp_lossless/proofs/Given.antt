@@ -13,13 +13,9 @@ use Rattle.mlp_params.specs.Applied.{channel_applied, channels_applied}
 use Rattle.mlp_substream.specs.Blocks.{given}
 use Rattle.mlp_channels.specs.Channels.{channel_at, state_of_channel, state_given}
 use Rattle.mlp_encode.specs.Blocks.{gives, params_with}
+use Rattle.mlp_lossless.specs.Chosen.{given_to}
 
--- what parameters give to the channel of a number, counted from the least one
-abbrev pub given_channel : Option Params → ℕ → Option ChannelParams
-given_channel None i = None
-given_channel (Some p) i = get_or p.channels.items i None
-
-pub state_given_is : (o : Option Params) (i : ℕ) → state_given o i ≡ state_of_channel (given_channel o i)
+pub state_given_is : (o : Option Params) (i : ℕ) → state_given o i ≡ state_of_channel (given_to o i)
 state_given_is None i = refl
 state_given_is (Some p) i = refl
 
@@ -32,10 +28,10 @@ none_given (Some c ∷ cs) zero e = absurd cc
 none_given (None ∷ cs) (suc i) e = none_given cs i e
 none_given (Some c ∷ cs) (suc i) e = absurd cc
 
-pub with_channel : (restarts : Bool) (p : Params) (i : ℕ) → given_channel (params_with restarts p) i ≡ get_or p.channels.items i None
+pub with_channel : (restarts : Bool) (p : Params) (i : ℕ) → given_to (params_with restarts p) i ≡ get_or p.channels.items i None
 with_channel restarts p i = pick (restarts || gives p) refl
   where
-    pick : (t : Bool) → (restarts || gives p) ≡ t → given_channel (if t then Some p else None) i ≡ get_or p.channels.items i None
+    pick : (t : Bool) → (restarts || gives p) ≡ t → given_to (if t then Some p else None) i ≡ get_or p.channels.items i None
     pick true e = refl
     pick false e =
         let a = or_parts restarts (gives p) e in
@@ -60,17 +56,17 @@ channels_at first ss gs i a b =
     ∙ ap (λ (x : ChannelState). channel_applied x (get_or gs i None)) (get_or-drop first ss i restarted_channel)
 
 pub channel_behind : (o : Option Params) (s : State) (first i : ℕ) → s.restart.min ≡ first → first + i < length s.channels.items → (p : Params) → o ≡ Some p → i < length p.channels.items
-    → channel_at (given o s) (first + i) ≡ channel_applied (channel_at s (first + i)) (given_channel o i)
+    → channel_at (given o s) (first + i) ≡ channel_applied (channel_at s (first + i)) (given_to o i)
 channel_behind o s first i m lt p e some =
-    subst (λ (o : Option Params). channel_at (given o s) (first + i) ≡ channel_applied (channel_at s (first + i)) (given_channel o i)) (sym e)
+    subst (λ (o : Option Params). channel_at (given o s) (first + i) ≡ channel_applied (channel_at s (first + i)) (given_to o i)) (sym e)
     (subst (λ (k : ℕ). channel_at (given (Some p) s) (k + i) ≡ channel_applied (channel_at s (k + i)) (get_or p.channels.items i None)) m
     (channels_at s.restart.min s.channels.items p.channels.items i (omega (arith, m, lt)) some))
 
 -- .. whether they are sent or left out
 pub behind_with : (restarts : Bool) (p : Params) (s : State) (first i : ℕ) → s.restart.min ≡ first → first + i < length s.channels.items → i < length p.channels.items
-    → channel_at (given (params_with restarts p) s) (first + i) ≡ channel_applied (channel_at s (first + i)) (given_channel (params_with restarts p) i)
+    → channel_at (given (params_with restarts p) s) (first + i) ≡ channel_applied (channel_at s (first + i)) (given_to (params_with restarts p) i)
 behind_with restarts p s first i m lt some = pick (restarts || gives p)
   where
-    pick : (t : Bool) → channel_at (given (if t then Some p else None) s) (first + i) ≡ channel_applied (channel_at s (first + i)) (given_channel (if t then Some p else None) i)
+    pick : (t : Bool) → channel_at (given (if t then Some p else None) s) (first + i) ≡ channel_applied (channel_at s (first + i)) (given_to (if t then Some p else None) i)
     pick true = channel_behind (Some p) s first i m lt p refl some
     pick false = refl

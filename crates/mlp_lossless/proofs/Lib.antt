@@ -14,6 +14,7 @@ pub mod Found
 pub mod Playing
 pub mod Plain
 pub mod Sends
+pub mod Told
 pub mod Units
 pub mod Outer
 pub mod Bodies
@@ -23,3 +24,4 @@ pub mod Streams
 pub mod Starts
 pub mod Lengths
 pub mod Owed
+pub mod Rooms

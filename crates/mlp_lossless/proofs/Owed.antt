@@ -34,8 +34,9 @@ use Rattle.mlp_encode.proofs.SegmentLaws.{sent_most}
 use Rattle.mlp_encode.proofs.FramesCoded.{coded_by}
 use Rattle.mlp_encode.proofs.Ends.{end_is, restart_lawful}
 use Rattle.mlp_lossless.specs.Streams.{AreUnits, all_frames}
-use Rattle.mlp_lossless.specs.Lossless.{GivesBack, ArrivesEarliest, EachSent}
-use Rattle.mlp_lossless.proofs.Starts.{gives_back, arrives}
+use Rattle.mlp_lossless.specs.Lossless.{GivesBack, ArrivesEarliest, ArrivesInTime, EachSent}
+use Rattle.mlp_lossless.specs.Chosen.{IsChosenStream}
+use Rattle.mlp_lossless.proofs.Starts.{gives_back, arrives, in_time, is_chosen}
 use Rattle.mlp_lossless.proofs.Segments.{CanBlock, CanRestart, block_eight}
 use Rattle.mlp_lossless.proofs.Sends.{block_plain}
 use Rattle.mlp_lossless.proofs.Plain.{IsPlain, restart_plain}
@@ -298,7 +299,7 @@ module _ (e : Going) (frames : List (List ℤ)) (last : Bool) (h : IsKept e) (ne
       (subst (λ (m : ℕ). IsShort e.profile e.units e.checks cs t 0 m (segments_bytes (place_of e) e.force (unit_sent e frames last).segments)) h.count short)
 
   pub can_send : CanSendUnit e frames last
-  can_send = record { profile = h.profile; frames_are = next; count = h.count; segments = all_sent.can; writable = written.parts; small = written.small }
+  can_send = record { profile = h.profile; frames_are = next; count = h.count; segments = all_sent.can; writable = written.parts; small = written.small; even = written.even; single = written.single }
 
   pub kept_on : (fifo : LeftFifo) → IsKept (behind e frames (unit_sent e frames last) fifo)
   unfolding unit_sent
@@ -353,3 +354,9 @@ all_given_back p frames units left j h lt = gives_back p j frames units left h l
 
 pub all_arrive : EachSent (λ p frames units j. ArrivesEarliest p j units)
 all_arrive p frames units left j h lt = arrives p j frames units left h lt (all_can_send frames p (going p) refl (kept_start p h.profile) h.frames_are)
+
+pub all_chosen : EachSent (λ p frames units j. IsChosenStream p j units)
+all_chosen p frames units left j h lt = is_chosen p j frames units left h lt (all_can_send frames p (going p) refl (kept_start p h.profile) h.frames_are)
+
+pub all_in_time : EachSent (λ p frames units j. ArrivesInTime p j units)
+all_in_time p frames units left j h lt = in_time p j units (all_arrive p frames units left j h lt)

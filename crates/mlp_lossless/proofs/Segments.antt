@@ -1,5 +1,5 @@
 -- A segment that was sent gives back the samples of its channels, and leaves what the encoder goes on with.
-use Rattle.std.proofs.Common.{◌≡◌, ℕ, ◌+◌, ◌-◌, ◌<◌, ◌≤◌, ℤ, pos, true, false, List, [], ◌∷◌, ◌++◌, map, length, take, drop, get_or, Option, Some, None, refl, sym, ap, ◌∙◌, arith, append_assoc}
+use Rattle.std.proofs.Common.{◌≡◌, ℕ, ◌+◌, ◌-◌, ◌<◌, ◌≤◌, ℤ, pos, true, false, List, [], ◌∷◌, ◌++◌, map, length, take, drop, get_or, Option, Some, None, refl, sym, ap, ◌∙◌, subst, arith, append_assoc}
 use Rattle.std.specs.Prelude.{is_some}
 use Rattle.std.proofs.Math.ListN.{get_or-append}
 use Rattle.std.proofs.Math.Seq.{take-append_seam, drop-append_seam}
@@ -13,7 +13,7 @@ use Rattle.mlp_predict.specs.Prediction.{Past, zeros}
 use Rattle.mlp_predict.specs.Outputs.{Frame, outputs_from, past_from}
 use Rattle.mlp_predict.proofs.FrameLists.{outputs_from-append, past_from-append}
 use Rattle.mlp_substream.specs.declared.known.Place.{Place}
-use Rattle.mlp_substream.specs.Blocks.{given, after_head, force_after}
+use Rattle.mlp_substream.specs.Blocks.{restarted as restarted_at, given, after_head, force_after}
 use Rattle.mlp_channels.specs.Channels.{Coded, block_frames, channel_frames, past_before, frames_in, outputs_in, coded_after}
 use Rattle.mlp_channels.specs.Playing.{past_of_channel}
 use Rattle.mlp_fifo.specs.Pace.{unit_of}
@@ -26,7 +26,8 @@ use Rattle.mlp_encode.specs.Coding.{column}
 use Rattle.mlp_encode.specs.Blocks.{Force, SentBlock, SentSegment, block_sent, restarted, restart_sent, later_sent, sent_in, given_in}
 use Rattle.mlp_encode.specs.Lawful.{IsSendable}
 use Rattle.mlp_encode.proofs.SentChannels.{codes_in_count, last_most}
-use Rattle.mlp_lossless.proofs.Blocks.{block_outputs, block_past, pasts_count}
+use Rattle.mlp_lossless.specs.Chosen.{IsLeastBlock, AreLeastBlocks, IsLeastSegment}
+use Rattle.mlp_lossless.proofs.Blocks.{block_outputs, block_past, block_least, pasts_count}
 
 -- ---- a block
 
@@ -59,6 +60,12 @@ module _ (j : ℕ) (p : Profile) (restart : Option Restart) (before : Force) (fr
     outputs = block_outputs j p (is_some restart) before frames h.sendable h.steps h.eight c from to (block_sent j p restart before frames).head (given (given_in j p (is_some restart) before frames) before.state).rows.items refl;
     past_is = block_past j p (is_some restart) before frames h.sendable h.steps h.eight c from to (block_sent j p restart before frames).head (given (given_in j p (is_some restart) before frames) before.state).rows.items refl;
   }
+
+  pub block_chosen : CanBlock j p restart before frames → (c : ℕ) → first_channel j ≤ c → c ≤ last_channel j
+      → IsLeastBlock (Some before.state) (past_of_channel before.pasts c) c (block_sent j p restart before frames).head (block_sent j p restart before frames).codes
+  unfolding block_sent
+  block_chosen h c from to =
+      block_least j p (is_some restart) before frames h.sendable h.steps h.eight c from to (block_sent j p restart before frames).head (given (given_in j p (is_some restart) before frames) before.state).rows.items refl refl
 
   pub block_eight : CanBlock j p restart before frames → length (block_sent j p restart before frames).behind.pasts ≡ 8
   unfolding block_sent
@@ -94,6 +101,25 @@ module _ (place : Place) (c : ℕ) where
       block_first force h (g ∷ []) codes (later ++ []) s e n
       ∙ ap (λ (fs : List Frame). block_frames (Some s) h c codes ++ fs) (frames_one (Some s) g later t d m)
 
+  -- a block that is the least choice, and those behind it
+  least_first : (force : Option State) (h : BlockHead) (hs : List BlockHead) (codes more : List FrameCode) (s t : State) (past behind : Past) → restarted_at place force h.restart ≡ Some s → after_head place force h ≡ Some t
+      → length codes ≡ h.frames
+      → IsLeastBlock (Some s) past c h codes → past_from 8 4 past (block_frames (Some t) h c codes) ≡ behind → AreLeastBlocks place (Some t) behind c hs more → AreLeastBlocks place force past c (h ∷ hs) (codes ++ more)
+  unfolding AreLeastBlocks
+  least_first force h hs codes more s t past behind begun e n least left rest =
+      let front : take h.frames (codes ++ more) ≡ codes = ap (λ (k : ℕ). take k (codes ++ more)) (sym n) ∙ take-append_seam codes more in
+      let back : drop h.frames (codes ++ more) ≡ more = ap (λ (k : ℕ). drop k (codes ++ more)) (sym n) ∙ drop-append_seam codes more in (
+        subst (λ (f : Option State). IsLeastBlock f past c h (take h.frames (codes ++ more))) (sym begun) (subst (λ (cs : List FrameCode). IsLeastBlock (Some s) past c h cs) (sym front) least),
+        subst (λ (f : Option State). AreLeastBlocks place f (past_from 8 4 past (block_frames f h c (take h.frames (codes ++ more)))) c hs (drop h.frames (codes ++ more))) (sym e)
+            (subst (λ (cs : List FrameCode). AreLeastBlocks place (Some t) (past_from 8 4 past (block_frames (Some t) h c cs)) c hs (drop h.frames (codes ++ more))) (sym front)
+            (subst (λ (cs : List FrameCode). AreLeastBlocks place (Some t) (past_from 8 4 past (block_frames (Some t) h c codes)) c hs cs) (sym back)
+            (subst (λ (q : Past). AreLeastBlocks place (Some t) q c hs more) (sym left) rest))),
+      )
+
+  no_blocks : (force : Option State) (past : Past) (codes : List FrameCode) → AreLeastBlocks place force past c [] codes
+  unfolding AreLeastBlocks
+  no_blocks force past codes = tt
+
 -- ---- the segment
 
 -- what playing it gives and leaves in the channels of its substream
@@ -102,6 +128,7 @@ pub record SegmentBack (place : Place) (x : Coded) (j : ℕ) (s : SentSegment) (
   pub outputs : (c : ℕ) → first_channel j ≤ c → c ≤ last_channel j → outputs_in place x s.segment c ≡ column c frames
   pub pasts : (c : ℕ) → first_channel j ≤ c → c ≤ last_channel j → past_of_channel (coded_after place x s.segment).pasts c ≡ past_of_channel s.behind.pasts c
   pub count : length s.segment.codes.items ≡ length frames
+  pub least : (c : ℕ) → first_channel j ≤ c → c ≤ last_channel j → IsLeastSegment place x c s.segment
 
 coded_past : (place : Place) (x : Coded) (s : SentSegment) (c : ℕ) → c < 8 → past_of_channel (coded_after place x s.segment).pasts c ≡ past_from 8 4 (past_before place x c) (frames_in place x s.segment c)
 unfolding coded_after
@@ -124,6 +151,10 @@ module _ (j : ℕ) (p : Profile) (place : Place) (x : Coded) (st : State) (pasts
     head_is : after_head place x.force block.head ≡ Some block.behind.state
     unfolding block_sent
     head_is = ap (λ (f : Option State). after_head place f block.head) same
+
+    begun_is : restarted_at place x.force block.head.restart ≡ Some st
+    unfolding block_sent
+    begun_is = same
 
     length_is : length block.codes ≡ block.head.frames
     length_is = block_count j p None before frames ∙ sym (block_size j p None before frames)
@@ -149,6 +180,9 @@ module _ (j : ℕ) (p : Profile) (place : Place) (x : Coded) (st : State) (pasts
           ∙ ap (λ (past : Past). past_from 8 4 past (block_frames (Some block.behind.state) block.head c block.codes)) (past_is c from to)
           ∙ (block_back j p None before frames can c from to).past_is;
       count = let n = length-append block.codes [] in omega (arith, n, block_count j p None before frames);
+      least = λ c from to.
+          least_first place c x.force block.head [] block.codes [] st block.behind.state (past_before place x c) _ begun_is head_is length_is
+          (subst (λ (past : Past). IsLeastBlock (Some st) past c block.head block.codes) (sym (past_is c from to)) (block_chosen j p None before frames can c from to)) refl (no_blocks place c _ _ []);
     }
 
 -- ---- with a restart
@@ -172,6 +206,14 @@ module _ (j : ℕ) (p : Profile) (place : Place) (x : Coded) (restart : Restart)
     first_is : after_head place x.force first.head ≡ Some first.behind.state
     unfolding block_sent
     first_is = rw (format, unit) refl
+
+    first_begun : restarted_at place x.force first.head.restart ≡ Some (restarted j p restart pasts).state
+    unfolding block_sent
+    first_begun = rw (format, unit) refl
+
+    second_begun : restarted_at place (Some first.behind.state) second.head.restart ≡ Some first.behind.state
+    unfolding block_sent
+    second_begun = refl
 
     second_is : after_head place (Some first.behind.state) second.head ≡ Some second.behind.state
     unfolding block_sent
@@ -244,4 +286,12 @@ module _ (j : ℕ) (p : Profile) (place : Place) (x : Coded) (restart : Restart)
               let w = length-append (take first_frames frames) (drop first_frames frames) in
               let z = ap (λ (fs : List CodedFrame). length fs) (take-append-drop first_frames frames) in
               omega (arith, n, m, u, v, w, z);
+          least = λ c from to.
+              let later =
+              least_first place c (Some first.behind.state) second.head [] second.codes [] first.behind.state second.behind.state (past_of_channel first.behind.pasts c) _ second_begun second_is second_length
+              (block_chosen j p None first.behind (drop first_frames frames) can.goes_on c from to) refl (no_blocks place c _ _ []) in
+              subst (λ (past : Past). AreLeastBlocks place x.force past c (first.head ∷ second.head ∷ []) (first.codes ++ (second.codes ++ []))) (sym (zeros_there c from to))
+              (least_first place c x.force first.head (second.head ∷ []) first.codes (second.codes ++ []) (restarted j p restart pasts).state first.behind.state
+              (past_of_channel (restarted j p restart pasts).pasts c) _ first_begun first_is first_length
+              (block_chosen j p (Some restart) (restarted j p restart pasts) (take first_frames frames) can.begins c from to) (a c from to).past_is later);
         }

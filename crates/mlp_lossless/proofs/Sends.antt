@@ -1,7 +1,7 @@
 -- All that a decoder relies on of a segment that was sent.
 use Rattle.std.proofs.Common.{◌≡◌, ℕ, ◌+◌, ◌-◌, ◌<◌, ◌≤◌, true, false, List, [], ◌∷◌, ◌++◌, map, length, take, drop, Option, Some, None, refl, sym, ap, ◌∙◌, arith}
 use Rattle.std.specs.Prelude.{is_some}
-use Rattle.std.proofs.lemmas.List.{append-nil, map-append, take-append-drop}
+use Rattle.std.proofs.lemmas.List.{append-nil, length-drop, length-take-le, map-append, take-append-drop}
 use Rattle.std.proofs.lemmas.List.FromFn.{length-map-range_with_len}
 use Rattle.std.proofs.lemmas.List.Elements.{All-nil, All-cons}
 use Rattle.mlp_syntax.specs.declared.restart.Restart.{Restart}
@@ -21,9 +21,10 @@ use Rattle.mlp_encode.specs.Numbers.{coded_channels, first_frames}
 use Rattle.mlp_encode.specs.Sync.{restart_of}
 use Rattle.mlp_encode.specs.Blocks.{Force, SentBlock, SentSegment, bypass_in, block_sent, restarted, restart_sent, later_sent}
 use Rattle.mlp_encode.proofs.SentChannels.{first_last, last_most}
+use Rattle.mlp_lossless.specs.Chosen.{block_sizes}
 use Rattle.mlp_lossless.proofs.Pasts.{replaced_below, replaced_above}
 use Rattle.mlp_lossless.proofs.Blocks.{bits_are, past_below, past_above}
-use Rattle.mlp_lossless.proofs.Segments.{CanBlock, SegmentBack, block_restart, block_eight, later_back, CanRestart, restart_back}
+use Rattle.mlp_lossless.proofs.Segments.{CanBlock, SegmentBack, block_size, block_restart, block_eight, later_back, CanRestart, restart_back}
 use Rattle.mlp_lossless.proofs.AsKnown.{IsBegun}
 use Rattle.mlp_lossless.proofs.Heard.{IsTop}
 use Rattle.mlp_lossless.proofs.Plain.{IsPlain, restart_plain, restart_channels, plain_behind, top_behind}
@@ -66,6 +67,8 @@ pub record IsSentWell (place : Place) (x : Coded) (j : ℕ) (p : Profile) (resta
   pub eight : length s.behind.pasts ≡ 8
   pub begun : IsBegun j restart s.segment.blocks.items
   pub end : s.segment.terminator ≡ terminator
+  pub padding : s.segment.padding ≡ 0
+  pub sizes : map (λ h. h.frames) s.segment.blocks.items ≡ block_sizes (is_some restart) (length frames)
 
 pub later_well : (j : ℕ) (p : Profile) (place : Place) (x : Coded) (st : State) (pasts : List Past) (frames : List CodedFrame) (terminator : Option ℕ) → CanBlock j p None (record { state = st; pasts = pasts }) frames → x.force ≡ Some st → place.major ≡ false
     → ((c : ℕ) → first_channel j ≤ c → c ≤ last_channel j → past_of_channel x.pasts c ≡ past_of_channel pasts c) → IsPlain j st
@@ -84,6 +87,8 @@ later_well j p place x st pasts frames terminator can same plain agree is =
       eight = block_eight j p None before frames can;
       begun = record { first = b.head; more = []; heads = refl; restart = block_restart j p None before frames; others = All-nil (λ (h : BlockHead). h.restart ≡ None); of = tt };
       end = refl;
+      padding = refl;
+      sizes = ap (λ (n : ℕ). n ∷ []) (block_size j p None before frames);
     }
 
 module _ (j : ℕ) (p : Profile) (place : Place) (x : Coded) (timing check : ℕ) (pasts : List Past) (frames : List CodedFrame) (terminator : Option ℕ) where
@@ -134,4 +139,7 @@ module _ (j : ℕ) (p : Profile) (place : Place) (x : Coded) (timing check : ℕ
           of = restart_channels j timing check;
         };
         end = refl;
+        padding = refl;
+        sizes = ap (λ (n : ℕ). n ∷ second.head.frames ∷ []) (block_size j p (Some restart) fresh (take first_frames frames) ∙ length-take-le first_frames frames (omega (arith, b.sendable.least, length-drop first_frames frames)))
+            ∙ ap (λ (n : ℕ). first_frames ∷ n ∷ []) (block_size j p None first.behind (drop first_frames frames) ∙ length-drop first_frames frames);
       }

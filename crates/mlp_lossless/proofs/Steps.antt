@@ -1,11 +1,12 @@
 -- A unit that is sent is the next one of a decoder that follows, gives back its frames, and leaves what is followed on.
-use Rattle.std.proofs.Common.{◌≡◌, ℕ, zero, suc, ◌+◌, ◌-◌, ◌%◌, ◌^◌, ◌<◌, ◌≤◌, ℤ, Bool, true, false, List, [], ◌∷◌, ◌++◌, map, length, take, get_or, Option, Some, None, Ok, refl, sym, ap, ◌∙◌, subst, arith}
-use Rattle.std.specs.Prelude.{is_some, IsTrue, not, ◌==◌, ◌||◌, if◌then◌else◌}
+use Rattle.std.proofs.Common.{◌≡◌, ℕ, zero, suc, ◌+◌, ◌-◌, ◌*◌, ◌/◌, ◌%◌, ◌^◌, ◌<◌, ◌≤◌, ℤ, Bool, true, false, List, [], ◌∷◌, ◌++◌, map, length, take, get_or, Option, Some, None, Ok, refl, sym, ap, ◌∙◌, subst, arith}
+use Rattle.std.specs.Prelude.{All, is_some, IsTrue, not, ◌==◌, ◌||◌, if◌then◌else◌}
 use Rattle.std.specs.List.{list_any}
 use Rattle.std.proofs.Math.Seq.{take-append_seam}
 use Rattle.std.proofs.lemmas.Bool.{eqb-true, ne_eqb}
 use Rattle.std.proofs.lemmas.List.{length-append, length-map, length-take-le, get_or-take}
 use Rattle.std.proofs.lemmas.List.FromFn.{get_or-map-range_with_len}
+use Rattle.std.proofs.lemmas.List.Elements.{All-nil, All-cons}
 use Rattle.mlp_syntax.specs.declared.major.Kind.{Kind}
 use Rattle.mlp_syntax.specs.declared.major.MajorSync.{MajorSync}
 use Rattle.mlp_syntax.specs.declared.segment.Segment.{Segment}
@@ -31,7 +32,7 @@ use Rattle.mlp_contents.specs.Frames.{channel, heard_in}
 use Rattle.mlp_contents.specs.Units.{Unit_of, frames_in_unit, coded_at, coded_each, portion, top_of, no_segment, heard_of, placed_by, frames_out, after, whole}
 use Rattle.mlp_contents.specs.Units.{Left as Decoded, place_of as decoder_place}
 use Rattle.mlp_fifo.specs.LeftFifo.{LeftFifo}
-use Rattle.mlp_fifo.specs.Pace.{unit_of}
+use Rattle.mlp_fifo.specs.Pace.{unit_of, single_most}
 use Rattle.mlp_fold.specs.declared.profile.Profile.{Profile}
 use Rattle.mlp_fold.specs.declared.coding.CodedFrame.{CodedFrame}
 use Rattle.mlp_fold.specs.Profile.{checked}
@@ -40,18 +41,21 @@ use Rattle.mlp_fold.specs.Substreams.{substreams_of, first_channel, last_channel
 use Rattle.mlp_encode.specs.Numbers.{has_sync, low_zeros}
 use Rattle.mlp_encode.specs.Sync.{sync_of}
 use Rattle.mlp_encode.specs.Left.{Going}
-use Rattle.mlp_encode.specs.Unit.{AreNext, filled, coded, terminator_of, restart_in, SentUnit, unit_sent, place_of, segments_bytes, major_of, body_of, body_size, unit_bytes, check_behind, behind}
+use Rattle.mlp_encode.specs.Unit.{AreNext, filled, coded, terminator_of, output_timing, restart_in, SentUnit, unit_sent, place_of, segments_bytes, entry_at, entries_from, major_of, body_of, body_size, unit_bytes, check_behind, behind}
 use Rattle.mlp_lossless.specs.Following.{Follows}
+use Rattle.mlp_lossless.specs.Timings.{output_timings}
+use Rattle.mlp_lossless.specs.Chosen.{IsChosenSegment, IsChosen}
 use Rattle.mlp_encode.proofs.SyncAllowed.{Passes, passes}
 use Rattle.mlp_lossless.proofs.Syncs.{sync_kind, sync_frames}
 use Rattle.mlp_lossless.proofs.Shapes.{IsPresentation, presentation, mixed, filled_samples, filled_count, kept, front_kept, whole_unit}
-use Rattle.mlp_lossless.proofs.Units.{AllCan, Alongside, AllPlayed, IsPlayed, Plays, plays, all_back, all_stand, played_at}
+use Rattle.mlp_lossless.proofs.Units.{is_there, AllCan, Alongside, AllPlayed, IsPlayed, played_chosen, Plays, plays, all_back, all_stand, played_at}
 use Rattle.mlp_lossless.proofs.Bodies.{HasBytes, has_bytes, all_bits}
 use Rattle.mlp_lossless.proofs.Parts.{bits_back, bytes_count}
 use Rattle.mlp_lossless.proofs.Outer.{outer_allowed}
-use Rattle.mlp_lossless.proofs.Found.{found_all}
+use Rattle.mlp_lossless.proofs.Found.{AllStand, found_all}
 use Rattle.mlp_lossless.proofs.Heard.{all_placed, checks_same}
 use Rattle.mlp_lossless.proofs.Playing.{heard_unit}
+use Rattle.mlp_lossless.proofs.Told.{all_tell}
 
 -- ---- what is owed of the unit that is sent: its segments can be sent, and its parts can be written
 
@@ -62,6 +66,13 @@ pub record CanSendUnit (e : Going) (frames : List (List ℤ)) (last : Bool) : Ty
   pub segments : AllCan e.profile e.units e.checks (coded e.profile (filled e.profile frames)) (terminator_of e.profile (length frames) last) 0 e.force e.pasts
   pub writable : Writable (major_of e) (body_of e (unit_sent e frames last)).entries (body_of e (unit_sent e frames last)).bytes
   pub small : body_size (body_of e (unit_sent e frames last)) ≤ 8190
+  pub even : 2 * (body_size (body_of e (unit_sent e frames last)) / 2) ≡ body_size (body_of e (unit_sent e frames last))
+  pub single : unit_of e.profile.rate ≡ 40 → body_size (body_of e (unit_sent e frames last)) ≤ single_most e.profile.kind
+
+entries_plain : (sync : Bool) (start : ℕ) (bs : List (List ℕ)) → All (λ e. e ≡ entry_at sync e.end) (entries_from sync start bs)
+entries_plain sync start [] = All-nil (λ e. e ≡ entry_at sync e.end)
+entries_plain sync start (b ∷ bs) =
+    All-cons (λ e. e ≡ entry_at sync e.end) (entry_at sync (start + length b / 2)) (entries_from sync (start + length b / 2) bs) refl (entries_plain sync (start + length b / 2) bs)
 
 -- ---- lists of substreams
 
@@ -103,10 +114,6 @@ each_at place (x ∷ xs) (s ∷ ss) (suc i) a b = each_at place xs ss i (omega a
 after_force : (place : Place) (x : Coded) (s : Segment) → (coded_after place x s).force ≡ force_after place x.force s.blocks.items
 unfolding coded_after
 after_force place x s = refl
-
-is_there : {A : Type 0} (t : Bool) (x : A) → is_some (if t then Some x else None) ≡ t
-is_there true x = refl
-is_there false x = refl
 
 -- ---- the unit
 
@@ -209,6 +216,9 @@ module _ (j : ℕ) (e : Going) (d : Decoded) (frames : List (List ℤ)) (last : 
       let size_of : ℕ = 4 + (major_size outer.major + (directory_size outer.entries + length outer.body)) in
       bytes_count size_of (unit_text outer) (ap length (sym same) ∙ size ∙ omega arith) ∙ omega arith
 
+  pub words_are : 2 * outer.head.words ≡ length (unit_bytes time (body_of e (unit_sent e frames last)))
+  words_are = can.even ∙ sym sized
+
   outer_found : (rest : List Bool) → Found ((whole j).outer d) (bits_of (unit_bytes time (body_of e (unit_sent e frames last))) ++ rest) 0 outer
   unfolding tested
   outer_found rest =
@@ -255,6 +265,14 @@ module _ (j : ℕ) (e : Going) (d : Decoded) (frames : List (List ℤ)) (last : 
   unfolding tested
   spelled = sym bytes_text
 
+  -- ---- its timings
+
+  stand_here : AllStand (place_of e) (restart_in e.profile e.units e.checks) t j (folded d.check) 0 d.substreams contents
+  stand_here = all_stand e.profile e.units e.checks cs t j (folded d.check) sent.pasts 0 d.substreams contents sent.force all_played.played
+
+  pub outputs_are : All (λ o. o ≡ output_timing e.profile e.units) (output_timings (take (length d.substreams) (unit_sent e frames last).segments))
+  outputs_are = all_tell e.profile e.units e.checks t j (folded d.check) 0 d.substreams contents stand_here
+
   -- ---- what it gives
 
   top_played : IsPlayed e.profile e.units e.checks cs t j (folded d.check) sent.pasts j (get_or d.substreams j nothing_coded) (get_or contents j no_segment) (get_or sent.force j None)
@@ -295,6 +313,19 @@ module _ (j : ℕ) (e : Going) (d : Decoded) (frames : List (List ℤ)) (last : 
       let z : 0 + i ≡ i = omega arith in
       subst (λ (m : ℕ). IsPlayed e.profile e.units e.checks cs t j (folded d.check) sent.pasts m (get_or d.substreams i nothing_coded) (get_or contents i no_segment) (get_or sent.force i None)) z
       (played_at e.profile e.units e.checks cs t j (folded d.check) sent.pasts 0 d.substreams contents sent.force i all_played.played (omega (arith, h.count, le)))
+
+  -- ---- it is chosen
+
+  pub unit_chosen : IsChosen e.profile j e.units d unit
+  unit_chosen = record {
+    major = refl;
+    entries = entries_plain (has_sync e.units) 0 bs;
+    segments = λ i le.
+        subst (λ (x : Place). IsChosenSegment e.profile i e.units x (coded_at d.substreams i) (get_or contents i no_segment)) (sym place_is)
+        (played_chosen e.profile e.units e.checks cs t j (folded d.check) sent.pasts i (get_or d.substreams i nothing_coded) (get_or contents i no_segment) (get_or sent.force i None) (played_of i le));
+  }
+
+  -- ---- .. and what it leaves
 
   coded_there : (i : ℕ) → i ≤ j → coded_at (coded_each (decoder_place d outer) d.substreams contents) i ≡ coded_after (place_of e) (get_or d.substreams i nothing_coded) (get_or contents i no_segment)
   coded_there i le =

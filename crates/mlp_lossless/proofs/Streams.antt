@@ -1,6 +1,6 @@
 -- A whole stream that is sent is a stream of each presentation, with the samples of the presentation.
-use Rattle.std.proofs.Common.{◌≡◌, ℕ, ◌%◌, ◌^◌, ◌<◌, ℤ, Bool, true, false, List, [], ◌∷◌, ◌++◌, map, length, drop, Result, Ok, Err, refl, sym, ap, ◌∙◌, subst, arith}
-use Rattle.std.specs.Prelude.{◌==◌}
+use Rattle.std.proofs.Common.{◌≡◌, ℕ, ◌+◌, ◌*◌, ◌%◌, ◌^◌, ◌<◌, ℤ, Bool, true, false, List, [], ◌∷◌, ◌++◌, map, length, drop, Result, Ok, Err, refl, sym, ap, ◌∙◌, subst, arith}
+use Rattle.std.specs.Prelude.{All, ◌==◌}
 use Rattle.std.proofs.Math.Seq.{drop-append_seam}
 use Rattle.std.proofs.lemmas.Bool.{ne_eqb}
 use Rattle.std.proofs.lemmas.List.{map-append}
@@ -18,11 +18,13 @@ use Rattle.mlp_fold.specs.Mix.{presented_of}
 use Rattle.mlp_fold.specs.Substreams.{substreams_of}
 use Rattle.mlp_encode.specs.Numbers.{low_zeros}
 use Rattle.mlp_encode.specs.Left.{Going, Left}
-use Rattle.mlp_encode.specs.Unit.{unit_sent, major_of, body_of, body_size, unit_bytes, behind, sent_at, next_sent, joined}
+use Rattle.mlp_encode.specs.Unit.{output_timing, unit_sent, major_of, body_of, body_size, unit_bytes, behind, sent_at, next_sent, joined}
 use Rattle.mlp_encode.specs.Sent.{Stream, with_unit, sent}
 use Rattle.mlp_lossless.specs.Streams.{all_frames}
 use Rattle.mlp_lossless.specs.Following.{Follows}
-use Rattle.mlp_lossless.proofs.Steps.{CanSendUnit, unit, sized, next, spelled, frames_given, follows_on}
+use Rattle.mlp_lossless.specs.Timings.{output_timings}
+use Rattle.mlp_lossless.specs.Chosen.{IsChosen, AreChosen}
+use Rattle.mlp_lossless.proofs.Steps.{CanSendUnit, unit, sized, words_are, outputs_are, unit_chosen, next, spelled, frames_given, follows_on}
 
 no_bits : bits_of [] ≡ []
 unfolding bits_of
@@ -56,6 +58,11 @@ AllCanSend (Err d) (frames ∷ more) = ⊥
 AllCanSend (Ok e) (frames ∷ more) =
     CanSendUnit e frames (length more == 0) × ((x : List ℕ × Left) → next_sent (Ok e) frames (length more == 0) ≡ Ok x → AllCanSend x.1 more)
 
+-- the output timings of units from a number on are those of when they are output
+unfoldable pub AreOutput : Profile → ℕ → List Unit_of → Type 0
+AreOutput p n [] = Unit {0}
+AreOutput p n (u ∷ us) = All (λ o. o ≡ output_timing p n) (output_timings u.contents) × AreOutput p (n + 1) us
+
 -- the units, as a decoder takes them
 pub record IsTaken (j : ℕ) (p : Profile) (e : Going) (d : Decoded) (pcm : List (List (List ℤ))) (bytes : List (List ℕ)) : Type 0 where
   pub us : List Unit_of
@@ -67,6 +74,9 @@ pub record IsTaken (j : ℕ) (p : Profile) (e : Going) (d : Decoded) (pcm : List
   pub fifo : LeftFifo
   pub placed_are : placed_all (map (λ b. length b) bytes) e.fifo ≡ Ok (times, fifo)
   pub inputs : map (λ u. u.outer.head.timing) us ≡ map (λ t. t % 2 ^ 16) times
+  pub lengths : map (λ u. 2 * u.outer.head.words) us ≡ map (λ b. length b) bytes
+  pub outputs : AreOutput p e.units us
+  pub chosen : AreChosen p j e.units d us
 
 -- a stream that was sent begins with a unit
 pub record Begun (frames : List (List ℤ)) (more : List (List (List ℤ))) (left after : Left) (units : List (List ℕ)) : Type 0 where
@@ -101,7 +111,7 @@ module _ (j : ℕ) (p : Profile) (some : j < substreams_of p.channels) where
 
   pub all_taken : (pcm : List (List (List ℤ))) (e : Going) (d : Decoded) (units : List (List ℕ)) (left : Left) → e.profile ≡ p → 0 < length pcm → AllCanSend (Ok e) pcm → Follows j e d → sent true (Ok e) pcm ≡ record { units = units; end = Ok left }
       → IsTaken j p e d pcm units
-  unfolding AllCanSend Begins
+  unfolding AllCanSend Begins AreOutput AreChosen
   all_taken [] e d units left same lt can h eq = absurd (omega arith)
   all_taken (frames ∷ []) e d units left same lt can h eq =
       let b = begun frames [] (Ok e) left units eq in
@@ -124,6 +134,9 @@ module _ (j : ℕ) (p : Profile) (some : j < substreams_of p.channels) where
         placed_are = ap (λ (xs : List (List ℕ)). placed_all (map (λ b. length b) xs) e.fifo) all ∙ first_placed e.fifo (length bytes) [] w.time w.fifo
             (ap (placed e.fifo) (sized j e d frames true w.time can.0 h there) ∙ w.placed_is);
         inputs = refl;
+        lengths = ap (λ (n : ℕ). n ∷ []) (words_are j e d frames true w.time can.0 h there) ∙ sym (ap (λ (xs : List (List ℕ)). map (λ (b : List ℕ). length b) xs) all);
+        outputs = (subst (λ (p : Profile). All (λ o. o ≡ output_timing p e.units) (output_timings u.contents)) same (outputs_are j e d frames true w.time can.0 h there), tt);
+        chosen = (subst (λ (p : Profile). IsChosen p j e.units d u) same (unit_chosen j e d frames true w.time can.0 h there), tt);
       }
   all_taken (frames ∷ more ∷ others) e d units left same lt can h eq =
       let b = begun frames (more ∷ others) (Ok e) left units eq in
@@ -155,4 +168,9 @@ module _ (j : ℕ) (p : Profile) (some : j < substreams_of p.channels) where
             ∙ first_placed e.fifo (length bytes) (map (λ b. length b) b.rest) w.time w.fifo (ap (placed e.fifo) (sized j e d frames (length (more ∷ others) == 0) w.time can.0 h there) ∙ w.placed_is)
             ∙ ap (with_time w.time) rest.placed_are;
         inputs = ap (λ (ts : List ℕ). w.time % 2 ^ 16 ∷ ts) rest.inputs;
+        lengths = ap (λ (n : ℕ). n ∷ map (λ u. 2 * u.outer.head.words) rest.us) (words_are j e d frames (length (more ∷ others) == 0) w.time can.0 h there)
+            ∙ ap (λ (ns : List ℕ). length bytes ∷ ns) rest.lengths
+            ∙ sym (ap (λ (xs : List (List ℕ)). map (λ (b : List ℕ). length b) xs) (b.units_are ∙ ap (λ (x : List ℕ). x ∷ b.rest) w.bytes_are));
+        outputs = (subst (λ (p : Profile). All (λ o. o ≡ output_timing p e.units) (output_timings u.contents)) same (outputs_are j e d frames (length (more ∷ others) == 0) w.time can.0 h there), rest.outputs);
+        chosen = (subst (λ (p : Profile). IsChosen p j e.units d u) same (unit_chosen j e d frames (length (more ∷ others) == 0) w.time can.0 h there), rest.chosen);
       }
