@@ -18,7 +18,7 @@ use Rattle.mlp_substream.proofs.KnownLaws.{known_text, known_allowed}
 use Rattle.mlp_channels.specs.Channels.{Coded, nothing_coded}
 use Rattle.mlp_contents.specs.Known.{first_restart, known}
 use Rattle.mlp_contents.specs.Units.{coded_at, is_checked, portion}
-use Rattle.mlp_lossless.specs.Chosen.{block_sizes}
+use Rattle.mlp_lossless.specs.Chosen.{block_heads}
 use Rattle.mlp_lossless.proofs.AsKnown.{IsRestartOf, AreRestarted, EndsAs, IsBegun, as_known}
 
 -- what holds of the segment of substream i: it is allowed where nothing is known of other segments, it begins with this
@@ -29,7 +29,7 @@ pub record Stands (place : Place) (restarts : ℕ → Option Restart) (terminato
   pub count : length s.codes.items ≡ place.unit_frames
   pub end : s.terminator ≡ terminator
   pub padding : s.padding ≡ 0
-  pub sizes : map (λ h. h.frames) s.blocks.items ≡ block_sizes place.major place.unit_frames
+  pub heads : map (λ h. (h.frames, h.restart)) s.blocks.items ≡ block_heads (restarts i) place.unit_frames
   pub matrix : IfSome (restarts i) (λ r. IfSome x.force (λ t. r.max_matrix ≡ t.restart.max_matrix))
   pub lossless : i ≡ last → IfSome (restarts i) (λ r. IfSome x.force (λ t. r.lossless ≡ check))
 

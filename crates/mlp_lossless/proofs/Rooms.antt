@@ -29,7 +29,7 @@ use Rattle.mlp_encode.specs.Unit.{AreNext, filled, coded, terminator_of, unit_se
 use Rattle.mlp_encode.specs.Sent.{Stream, with_unit, sent}
 use Rattle.mlp_encode.proofs.SyncAllowed.{passes}
 use Rattle.mlp_lossless.specs.Streams.{AreUnits}
-use Rattle.mlp_lossless.specs.Rooms.{IsSingle, WholeHasRoom, BegunHasRoom, RefusalMeans}
+use Rattle.mlp_lossless.specs.Rooms.{IsSingle, WholeHasRoom, BegunHasRoom, refused, Stops, WholeStops, BegunStops}
 use Rattle.mlp_lossless.proofs.Parts.{bytes_count}
 use Rattle.mlp_lossless.proofs.Bodies.{HasBytes, has_bytes}
 use Rattle.mlp_lossless.proofs.Outer.{outer_allowed}
@@ -151,6 +151,10 @@ all_units : (p : Profile) (frames : List (List (List ℤ))) → AreUnits p frame
 all_units p [] h = tt
 all_units p (unit ∷ more) h = (h.0, all_units p more h.1)
 
+begun_units : (p : Profile) (frames : List (List (List ℤ))) → All (λ unit. AreNext p unit false) frames → AreUnitsBy false p frames
+begun_units p [] h = tt
+begun_units p (unit ∷ more) h = (All-head (λ unit. AreNext p unit false) unit more h, begun_units p more (All-tail (λ unit. AreNext p unit false) unit more h))
+
 sent_more : (ended : Bool) (left : Left) (frames : List (List ℤ)) (more : List (List (List ℤ))) (x : List ℕ × Left) → next_sent left frames (ended && (length more == 0)) ≡ Ok x
     → sent ended left (frames ∷ more) ≡ with_unit x.0 (sent ended x.1 more)
 sent_more ended left frames more x eq = ap (λ (r : Result (List ℕ × Left) NoRoom). elim r as (λ r. Stream) [ Ok x ↦ with_unit x.0 (sent ended x.1 more) | Err d ↦ record { units = []; end = Err d } ]) eq
@@ -203,11 +207,7 @@ pub whole_has_room : WholeHasRoom
 whole_has_room p frames h single units = have_room p true single frames [] (going p) (behind_start p h) (λ i lt. absurd (omega (arith, lt))) (all_units p frames units)
 
 pub begun_has_room : BegunHasRoom
-begun_has_room p frames h single units = have_room p false single frames [] (going p) (behind_start p h) (λ i lt. absurd (omega (arith, lt))) (all_of frames units)
-  where
-    all_of : (frames : List (List (List ℤ))) → All (λ unit. AreNext p unit false) frames → AreUnitsBy false p frames
-    all_of [] h = tt
-    all_of (unit ∷ more) h = (All-head (λ unit. AreNext p unit false) unit more h, all_of more (All-tail (λ unit. AreNext p unit false) unit more h))
+begun_has_room p frames h single units = have_room p false single frames [] (going p) (behind_start p h) (λ i lt. absurd (omega (arith, lt))) (begun_units p frames units)
 
 -- ---- the first unit without a place
 
@@ -298,11 +298,10 @@ module _ (p : Profile) (ended : Bool) where
           subst (λ (us : List (List ℕ)). StopsBehind before e (frames ∷ unit ∷ more) us d) (sym (ap (λ (s : Stream). s.units) all))
           (stops_later before e frames unit more x g.left (sent ended (Ok g.left) (unit ∷ more)).units d g.left_is eq rest)
 
-pub refusal_means : RefusalMeans
-refusal_means p frames units d h are eq =
-    let s0 = stops_behind p true frames [] (going p) d (behind_start p h) (all_units p frames are) (ap (λ (s : Stream). s.end) eq) in
-    let s = subst (λ (us : List (List ℕ)). StopsBehind p true [] (going p) frames us d) (ap (λ (s : Stream). s.units) eq) s0 in
-    let ls : List ℕ = lengths units in
+stops : (p : Profile) (ended : Bool) (frames : List (List (List ℤ))) (units : List (List ℕ)) (d : NoRoom) → checked p ≡ Ok tt → AreUnitsBy ended p frames → sent ended (Ok (going p)) frames ≡ refused units d → Stops p ended frames units d
+stops p ended frames units d h are eq =
+    let s0 = stops_behind p ended frames [] (going p) d (behind_start p h) are (ap (λ (s : Stream). s.end) eq) in
+    let s = subst (λ (us : List (List ℕ)). StopsBehind p ended [] (going p) frames us d) (ap (λ (s : Stream). s.units) eq) s0 in
     let count : length (lengths units) ≡ length units = length-map units (λ (unit : List ℕ). length unit) in
     let at : d.unit ≡ length (lengths units) = omega (arith, s.unit_is, count) in
     record {
@@ -320,3 +319,9 @@ refusal_means p frames units d h are eq =
             (λ i l. get_or_append_left (lengths units) (d.bytes ∷ []) 0 i l) (λ i l. refl) s.schedule);
       };
     }
+
+pub whole_stops : WholeStops
+whole_stops p frames units d h are = stops p true frames units d h (all_units p frames are)
+
+pub begun_stops : BegunStops
+begun_stops p frames units d h are = stops p false frames units d h (begun_units p frames are)

@@ -21,7 +21,7 @@ use Rattle.mlp_encode.specs.Numbers.{coded_channels, first_frames}
 use Rattle.mlp_encode.specs.Sync.{restart_of}
 use Rattle.mlp_encode.specs.Blocks.{Force, SentBlock, SentSegment, bypass_in, block_sent, restarted, restart_sent, later_sent}
 use Rattle.mlp_encode.proofs.SentChannels.{first_last, last_most}
-use Rattle.mlp_lossless.specs.Chosen.{block_sizes}
+use Rattle.mlp_lossless.specs.Chosen.{block_heads}
 use Rattle.mlp_lossless.proofs.Pasts.{replaced_below, replaced_above}
 use Rattle.mlp_lossless.proofs.Blocks.{bits_are, past_below, past_above}
 use Rattle.mlp_lossless.proofs.Segments.{CanBlock, SegmentBack, block_size, block_restart, block_eight, later_back, CanRestart, restart_back}
@@ -68,7 +68,7 @@ pub record IsSentWell (place : Place) (x : Coded) (j : ℕ) (p : Profile) (resta
   pub begun : IsBegun j restart s.segment.blocks.items
   pub end : s.segment.terminator ≡ terminator
   pub padding : s.segment.padding ≡ 0
-  pub sizes : map (λ h. h.frames) s.segment.blocks.items ≡ block_sizes (is_some restart) (length frames)
+  pub heads : map (λ h. (h.frames, h.restart)) s.segment.blocks.items ≡ block_heads restart (length frames)
 
 pub later_well : (j : ℕ) (p : Profile) (place : Place) (x : Coded) (st : State) (pasts : List Past) (frames : List CodedFrame) (terminator : Option ℕ) → CanBlock j p None (record { state = st; pasts = pasts }) frames → x.force ≡ Some st → place.major ≡ false
     → ((c : ℕ) → first_channel j ≤ c → c ≤ last_channel j → past_of_channel x.pasts c ≡ past_of_channel pasts c) → IsPlain j st
@@ -88,7 +88,7 @@ later_well j p place x st pasts frames terminator can same plain agree is =
       begun = record { first = b.head; more = []; heads = refl; restart = block_restart j p None before frames; others = All-nil (λ (h : BlockHead). h.restart ≡ None); of = tt };
       end = refl;
       padding = refl;
-      sizes = ap (λ (n : ℕ). n ∷ []) (block_size j p None before frames);
+      heads = ap (λ (n : ℕ). (n, b.head.restart) ∷ []) (block_size j p None before frames) ∙ ap (λ (o : Option Restart). (length frames, o) ∷ []) (block_restart j p None before frames);
     }
 
 module _ (j : ℕ) (p : Profile) (place : Place) (x : Coded) (timing check : ℕ) (pasts : List Past) (frames : List CodedFrame) (terminator : Option ℕ) where
@@ -140,6 +140,9 @@ module _ (j : ℕ) (p : Profile) (place : Place) (x : Coded) (timing check : ℕ
         };
         end = refl;
         padding = refl;
-        sizes = ap (λ (n : ℕ). n ∷ second.head.frames ∷ []) (block_size j p (Some restart) fresh (take first_frames frames) ∙ length-take-le first_frames frames (omega (arith, b.sendable.least, length-drop first_frames frames)))
-            ∙ ap (λ (n : ℕ). first_frames ∷ n ∷ []) (block_size j p None first.behind (drop first_frames frames) ∙ length-drop first_frames frames);
+        heads = ap (λ (n : ℕ). (n, first.head.restart) ∷ (second.head.frames, second.head.restart) ∷ [])
+            (block_size j p (Some restart) fresh (take first_frames frames) ∙ length-take-le first_frames frames (omega (arith, b.sendable.least, length-drop first_frames frames)))
+            ∙ ap (λ (o : Option Restart). (first_frames, o) ∷ (second.head.frames, second.head.restart) ∷ []) (block_restart j p (Some restart) fresh (take first_frames frames))
+            ∙ ap (λ (n : ℕ). (first_frames, Some restart) ∷ (n, second.head.restart) ∷ []) (block_size j p None first.behind (drop first_frames frames) ∙ length-drop first_frames frames)
+            ∙ ap (λ (o : Option Restart). (first_frames, Some restart) ∷ (length frames - first_frames, o) ∷ []) (block_restart j p None first.behind (drop first_frames frames));
       }

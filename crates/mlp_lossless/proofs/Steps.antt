@@ -48,7 +48,7 @@ use Rattle.mlp_lossless.specs.Chosen.{IsChosenSegment, IsChosen}
 use Rattle.mlp_encode.proofs.SyncAllowed.{Passes, passes}
 use Rattle.mlp_lossless.proofs.Syncs.{sync_kind, sync_frames}
 use Rattle.mlp_lossless.proofs.Shapes.{IsPresentation, presentation, mixed, filled_samples, filled_count, kept, front_kept, whole_unit}
-use Rattle.mlp_lossless.proofs.Units.{is_there, AllCan, Alongside, AllPlayed, IsPlayed, played_chosen, Plays, plays, all_back, all_stand, played_at}
+use Rattle.mlp_lossless.proofs.Units.{AllCan, Alongside, AllPlayed, IsPlayed, played_chosen, Plays, plays, all_back, all_stand, played_at}
 use Rattle.mlp_lossless.proofs.Bodies.{HasBytes, has_bytes, all_bits}
 use Rattle.mlp_lossless.proofs.Parts.{bits_back, bytes_count}
 use Rattle.mlp_lossless.proofs.Outer.{outer_allowed}
@@ -68,6 +68,10 @@ pub record CanSendUnit (e : Going) (frames : List (List ℤ)) (last : Bool) : Ty
   pub small : body_size (body_of e (unit_sent e frames last)) ≤ 8190
   pub even : 2 * (body_size (body_of e (unit_sent e frames last)) / 2) ≡ body_size (body_of e (unit_sent e frames last))
   pub single : unit_of e.profile.rate ≡ 40 → body_size (body_of e (unit_sent e frames last)) ≤ single_most e.profile.kind
+
+is_there : {A : Type 0} (t : Bool) (x : A) → is_some (if t then Some x else None) ≡ t
+is_there true x = refl
+is_there false x = refl
 
 entries_plain : (sync : Bool) (start : ℕ) (bs : List (List ℕ)) → All (λ e. e ≡ entry_at sync e.end) (entries_from sync start bs)
 entries_plain sync start [] = All-nil (λ e. e ≡ entry_at sync e.end)

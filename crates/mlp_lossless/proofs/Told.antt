@@ -1,6 +1,6 @@
--- What the restart headers of the segments that are sent tell.
+-- The output timings of the restart headers that are sent.
 use Rattle.std.proofs.Common.{◌≡◌, ℕ, suc, Bool, true, false, List, [], ◌∷◌, ◌++◌, get_or, Option, Some, None, refl, sym, subst}
-use Rattle.std.specs.Prelude.{All, IfSome, if◌then◌else◌}
+use Rattle.std.specs.Prelude.{All, if◌then◌else◌}
 use Rattle.std.proofs.lemmas.List.Elements.{All-nil, All-cons, All-head, All-tail, All-append}
 use Rattle.mlp_syntax.specs.declared.restart.Restart.{Restart}
 use Rattle.mlp_syntax.specs.declared.segment.BlockHead.{BlockHead}
@@ -39,32 +39,6 @@ module _ (p : Profile) (n : ℕ) (checks : List ℕ) (terminator : Option ℕ) (
       (subst (λ (ts : List ℕ). All (λ o. o ≡ output_timing p n) (restart_timing b.first.restart ++ ts)) (sym (no_timings b.more b.others))
       (subst (λ (o : Option Restart). All (λ t. t ≡ output_timing p n) (restart_timing o ++ [])) (sym b.restart)
       (All-append IsTold (restart_timing (restart_in p n checks i)) [] (restart_tells i) (All-nil IsTold))))
-
-  -- ---- the restart headers themselves
-
-  -- .. of segment i, but for its check
-  abbrev IsOf : ℕ → Restart → Type 0
-  IsOf i r = r ≡ restart_of i (output_timing p n) r.lossless
-
-  restart_is : (i : ℕ) → IfSome (restart_in p n checks i) (IsOf i)
-  restart_is i = pick (has_sync n)
-    where
-      pick : (t : Bool) → IfSome (if t then Some (restart_of i (output_timing p n) (check_in n (get_or checks i 0))) else None) (IsOf i)
-      pick true = refl
-      pick false = tt
-
-  later_of : (i : ℕ) (hs : List BlockHead) → All (λ (h : BlockHead). h.restart ≡ None) hs → All (λ h. IfSome h.restart (IsOf i)) hs
-  later_of i [] none = All-nil (λ (h : BlockHead). IfSome h.restart (IsOf i))
-  later_of i (h ∷ hs) none =
-      let P : BlockHead → Type 0 = λ h. h.restart ≡ None in
-      All-cons (λ (h : BlockHead). IfSome h.restart (IsOf i)) h hs (subst (λ (o : Option Restart). IfSome o (IsOf i)) (sym (All-head P h hs none)) tt) (later_of i hs (All-tail P h hs none))
-
-  pub blocks_of : (i : ℕ) (hs : List BlockHead) → IsBegun i (restart_in p n checks i) hs → All (λ h. IfSome h.restart (λ r. r ≡ restart_of i (output_timing p n) r.lossless)) hs
-  blocks_of i hs b =
-      subst (λ (hs : List BlockHead). All (λ h. IfSome h.restart (IsOf i)) hs) (sym b.heads)
-      (All-cons (λ (h : BlockHead). IfSome h.restart (IsOf i)) b.first b.more (subst (λ (o : Option Restart). IfSome o (IsOf i)) (sym b.restart) (restart_is i)) (later_of i b.more b.others))
-
-  -- ---- output timings
 
   pub all_tell : (i : ℕ) (xs : List Coded) (ss : List Segment) → AllStand (record { format = p.kind; unit_frames = unit_of p.rate; major = has_sync n }) (restart_in p n checks) terminator last check i xs ss
       → All (λ o. o ≡ output_timing p n) (output_timings ss)

@@ -1,6 +1,6 @@
 -- The segments of a unit, one after the other, as the decoder of a presentation takes them.
 use Rattle.std.proofs.Common.{◌≡◌, ℕ, zero, suc, ◌+◌, ◌*◌, ◌<◌, ◌≤◌, Bool, true, false, List, [], ◌∷◌, map, length, take, get_or, Option, Some, None, refl, sym, ap, ◌∙◌, subst, arith}
-use Rattle.std.specs.Prelude.{IfSome, is_some, ◌==◌, if◌then◌else◌}
+use Rattle.std.specs.Prelude.{IfSome, ◌==◌, if◌then◌else◌}
 use Rattle.mlp_syntax.specs.declared.restart.Restart.{Restart}
 use Rattle.mlp_syntax.specs.declared.segment.FrameCode.{FrameCode}
 use Rattle.mlp_syntax.specs.declared.segment.Segment.{Segment}
@@ -22,18 +22,13 @@ use Rattle.mlp_encode.specs.Lawful.{segment_most}
 use Rattle.mlp_encode.specs.Sync.{restart_of}
 use Rattle.mlp_encode.specs.Blocks.{SentSegment, bypass_in, segment_sent, restart_sent, later_sent}
 use Rattle.mlp_encode.specs.Unit.{SentUnit, nothing_sent, before, output_timing, check_in, restart_in, segments_from}
-use Rattle.mlp_lossless.specs.Chosen.{IsLeastSegment, block_sizes, IsChosenSegment}
+use Rattle.mlp_lossless.specs.Chosen.{IsLeastSegment, block_heads, IsChosenSegment}
 use Rattle.mlp_lossless.proofs.Segments.{CanBlock, CanRestart}
 use Rattle.mlp_lossless.proofs.Sends.{IsSentWell, later_well, restart_well}
 use Rattle.mlp_lossless.proofs.Plain.{IsPlain}
-use Rattle.mlp_lossless.proofs.Told.{blocks_of}
 use Rattle.mlp_lossless.proofs.Heard.{IsTop}
 use Rattle.mlp_lossless.proofs.Coverage.{IsBack, AreBack, first_next, first_rises}
 use Rattle.mlp_lossless.proofs.Found.{Stands, AllStand}
-
-pub is_there : {A : Type 0} (t : Bool) (x : A) → is_some (if t then Some x else None) ≡ t
-is_there true x = refl
-is_there false x = refl
 
 module _ (p : Profile) (n : ℕ) (checks : List ℕ) (coded : List CodedFrame) (terminator : Option ℕ) where
   abbrev pub restarts : ℕ → Option Restart
@@ -101,7 +96,7 @@ module _ (p : Profile) (n : ℕ) (checks : List ℕ) (coded : List CodedFrame) (
   pub played_chosen : (last check : ℕ) (final : List Past) (i : ℕ) (x : Coded) (s : Segment) (f : Option State) → IsPlayed last check final i x s f
       → IsChosenSegment p i n (record { format = p.kind; unit_frames = unit_of p.rate; major = has_sync n }) x s
   played_chosen last check final i x s f h =
-      record { padding = h.stand.padding; sizes = h.stand.sizes; restarts = blocks_of p n checks terminator last check i s.blocks.items h.stand.begun; least = h.least }
+      record { padding = h.stand.padding; check = check_in n (get_or checks i 0); heads = h.stand.heads; least = h.least }
 
   unfoldable pub AllPlayed : ℕ → ℕ → List Past → ℕ → List Coded → List Segment → List (Option State) → Type 0
   AllPlayed last check final i [] [] fs = Unit {0}
@@ -176,7 +171,7 @@ module _ (p : Profile) (n : ℕ) (checks : List ℕ) (coded : List CodedFrame) (
       count = w.back.count ∙ full;
       end = w.end;
       padding = w.padding;
-      sizes = w.sizes ∙ ap (λ (k : ℕ). block_sizes (is_some (restarts i)) k) full ∙ ap (λ (b : Bool). block_sizes b (unit_of p.rate)) (is_there (has_sync n) (restart_of i (output_timing p n) (check_in n (get_or checks i 0))));
+      heads = w.heads ∙ ap (λ (k : ℕ). block_heads (restarts i) k) full;
       matrix = subst (λ (g : Option State). IfSome (restarts i) (λ r. IfSome g (λ t. r.max_matrix ≡ t.restart.max_matrix))) (sym same) (matrix_of (has_sync n) f h.plain);
       lossless = λ e. subst (λ (g : Option State). IfSome (restarts i) (λ r. IfSome g (λ t. r.lossless ≡ check))) (sym same) (check_of (has_sync n) f h.later e);
     }

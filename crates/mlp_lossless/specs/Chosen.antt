@@ -1,7 +1,8 @@
 -- That each block of a stream is the choice that costs least.
-use Rattle.std.specs.Prelude.{◌≡◌, ◌≤◌, ℕ, ◌+◌, ◌-◌, not, Bool, All, IfSome, List, [], ◌∷◌, take, drop, map, slice_index_or, Option, Some, None, is_some, if◌then◌else◌, ℤ}
+use Rattle.std.specs.Prelude.{◌≡◌, ◌≤◌, ℕ, ◌+◌, ◌-◌, not, Bool, All, List, [], ◌∷◌, take, drop, map, slice_index_or, Option, Some, None, is_some, if◌then◌else◌, ℤ}
 use Rattle.mlp_syntax.specs.declared.params.ChannelParams.{ChannelParams}
 use Rattle.mlp_syntax.specs.declared.params.Params.{Params}
+use Rattle.mlp_syntax.specs.declared.restart.Restart.{Restart}
 use Rattle.mlp_syntax.specs.declared.segment.BlockHead.{BlockHead}
 use Rattle.mlp_syntax.specs.declared.segment.Code.{Code}
 use Rattle.mlp_syntax.specs.declared.segment.FrameCode.{FrameCode}
@@ -94,23 +95,25 @@ IsLeastSegment place x c s =
 
 -- ---- a unit
 
--- the frames of the blocks of a unit: a restart comes with a block of 8, and without one there is one block
-abbrev pub block_sizes : Bool → ℕ → List ℕ
-block_sizes restarts frames =
-    if restarts then first_frames ∷ (frames - first_frames) ∷ [] else frames ∷ []
+-- the blocks of a unit of so many frames, each by its frames and its restart header: a restart comes with a block of 8,
+-- and without one there is one block
+abbrev pub block_heads : Option Restart → ℕ → List (ℕ × Option Restart)
+block_heads None frames = (frames, None) ∷ []
+block_heads (Some r) frames = (first_frames, Some r) ∷ (frames - first_frames, None) ∷ []
 
--- The segment of substream i in unit n, where this is in force before it: nothing is carried, and each channel of each
--- block is the least choice.
+-- The segment of substream i in unit n, where this is in force before it: its blocks and its restart are those of each
+-- stream, and each channel of each block is the least choice.
 pub record IsChosenSegment (p : Profile) (i n : ℕ) (place : Place) (x : Coded) (s : Segment) : Type 0 where
   pub padding : s.padding ≡ 0
-  pub sizes : map (λ h. h.frames) s.blocks.items ≡ block_sizes (has_sync n) (unit_of p.rate)
-  -- a restart header tells its substream, its channels, when the unit is output, and but for its check nothing else
-  pub restarts :
-      All (λ h. IfSome h.restart (λ r. r ≡ restart_of i (output_timing p n) r.lossless)) s.blocks.items
+  -- the lossless check of its restart, if it has one
+  pub check : ℕ
+  pub heads :
+      let restart = if has_sync n then Some (restart_of i (output_timing p n) check) else None in
+      map (λ h. (h.frames, h.restart)) s.blocks.items ≡ block_heads restart (unit_of p.rate)
   pub least : (c : ℕ) → first_channel i ≤ c → c ≤ last_channel i → IsLeastSegment place x c s
 
 -- Unit n of a stream for presentation j, where units before it leave this: a major sync stands in every 16th unit and
--- is always the same, and each segment is chosen.
+-- is always the same, nothing is carried, and each segment is chosen.
 pub record IsChosen (p : Profile) (j n : ℕ) (left : Left) (u : Unit_of) : Type 0 where
   pub major : u.outer.major ≡ (if has_sync n then Some (sync_of p) else None)
   pub entries : All (λ e. e ≡ entry_at (has_sync n) e.end) u.outer.entries

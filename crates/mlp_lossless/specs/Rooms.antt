@@ -1,5 +1,5 @@
 -- That each unit has a place in time, and what it means that one has none.
-use Rattle.std.specs.Prelude.{◌≡◌, ◌⊎◌, ℕ, ◌+◌, ◌==◌, All, List, [], ◌∷◌, ◌++◌, length, map, take, slice_index_or, Ok, Err, IsOk, true, false, ℤ}
+use Rattle.std.specs.Prelude.{◌≡◌, ◌⊎◌, ℕ, ◌+◌, ◌==◌, ◌&&◌, Bool, All, List, [], ◌∷◌, ◌++◌, length, map, take, slice_index_or, Ok, Err, IsOk, true, false, ℤ}
 use Rattle.mlp_syntax.specs.declared.refusal.NoRoom.{NoRoom}
 use Rattle.mlp_fifo.specs.Placed.{LacksRoom}
 use Rattle.mlp_fold.specs.declared.profile.Profile.{Profile}
@@ -33,20 +33,29 @@ so_far units left = record { units = units; end = Ok (Ok left) }
 abbrev pub refused : List (List ℕ) → NoRoom → Stream
 refused units e = record { units = units; end = Err e }
 
--- Of the units of these frames so many were sent, and the next one has no place: the lengths of those sent have a
--- schedule, and with the length of the next one they have none.
-pub record Stops (p : Profile) (frames : List (List (List ℤ))) (units : List (List ℕ)) (e : NoRoom) : Type 0 where
+-- Of the units of these frames, the last of which is the stream's where `ended`, so many were sent, and the next one has
+-- no place: the lengths of those sent have a schedule, and with the length of the next one they have none.
+pub record Stops (p : Profile) (ended : Bool) (frames : List (List (List ℤ))) (units : List (List ℕ)) (e : NoRoom) : Type 0 where
   -- what the units before it leave
   pub left : Going
   pub before : sent false (Ok (going p)) (take (length units) frames) ≡ so_far units left
   pub unit_is : e.unit ≡ length units
   pub bytes_are :
       let unit = slice_index_or frames (length units) [] in
-      e.bytes ≡ body_size (body_of left (unit_sent left unit (length frames == length units + 1)))
+      let last = ended && (length frames == length units + 1) in
+      e.bytes ≡ body_size (body_of left (unit_sent left unit last))
   pub lacks : LacksRoom p.kind p.rate (map (λ unit. length unit) units ++ e.bytes ∷ []) e
 
-abbrev pub RefusalMeans : Type 0
-RefusalMeans =
+-- a whole stream that is refused
+abbrev pub WholeStops : Type 0
+WholeStops =
     (p : Profile) (frames : List (List (List ℤ))) (units : List (List ℕ)) (e : NoRoom) →
-    checked p ≡ Ok tt → AreUnits p frames → sent true (Ok (going p)) frames ≡ refused units e →
-    Stops p frames units e
+    checked p ≡ Ok tt → AreUnits p frames →
+    sent true (Ok (going p)) frames ≡ refused units e → Stops p true frames units e
+
+-- .. and one that goes on
+abbrev pub BegunStops : Type 0
+BegunStops =
+    (p : Profile) (frames : List (List (List ℤ))) (units : List (List ℕ)) (e : NoRoom) →
+    checked p ≡ Ok tt → All (λ unit. AreNext p unit false) frames →
+    sent false (Ok (going p)) frames ≡ refused units e → Stops p false frames units e

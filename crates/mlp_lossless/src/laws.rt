@@ -10,7 +10,7 @@ ghost use Rattle.mlp_lossless.specs.Streams.{all_frames};
 ghost use Rattle.mlp_lossless.specs.Following.{Follows};
 ghost use Rattle.mlp_lossless.specs.Lossless.{GivesBack, ArrivesEarliest, ArrivesInTime, EachSent};
 ghost use Rattle.mlp_lossless.specs.Chosen.{IsChosenStream};
-ghost use Rattle.mlp_lossless.specs.Rooms.{WholeHasRoom, BegunHasRoom, RefusalMeans};
+ghost use Rattle.mlp_lossless.specs.Rooms.{WholeHasRoom, BegunHasRoom, WholeStops, BegunStops};
 
 /// The bytes that are sent of PCM, where each unit has a place in time, are a stream of each presentation of the
 /// profile, with what the presentation shows of each frame as its samples.
@@ -49,5 +49,6 @@ pub fn law_single_rates()
 
 /// A stream is refused at the first unit up to which the lengths have no schedule, and at no other.
 pub fn law_refusal()
-    ensures { RefusalMeans }
+    ensures whole { WholeStops }
+    ensures begun { BegunStops }
 {}

@@ -1,5 +1,8 @@
-use Rattle.mlp_lossless.proofs.Rooms.{refusal_means}
+use Rattle.mlp_lossless.proofs.Rooms.{whole_stops, begun_stops}
 use Rattle.mlp_lossless.proofs.laws.law_refusal.Goals as goal
 
-pub returns : goal.returns
-returns c = refusal_means
+pub returns-clause-whole : goal.returns-clause-whole
+returns-clause-whole c = whole_stops
+
+pub returns-clause-begun : goal.returns-clause-begun
+returns-clause-begun c = begun_stops
