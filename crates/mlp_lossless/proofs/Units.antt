@@ -96,7 +96,16 @@ module _ (p : Profile) (n : ℕ) (checks : List ℕ) (coded : List CodedFrame) (
   pub played_chosen : (last check : ℕ) (final : List Past) (i : ℕ) (x : Coded) (s : Segment) (f : Option State) → IsPlayed last check final i x s f
       → IsChosenSegment p i n (record { format = p.kind; unit_frames = unit_of p.rate; major = has_sync n }) x s
   played_chosen last check final i x s f h =
-      record { padding = h.stand.padding; check = check_in n (get_or checks i 0); heads = h.stand.heads; least = h.least }
+      record {
+        padding = h.stand.padding;
+        check = check_in n (get_or checks i 0);
+        heads = h.stand.heads;
+        behind = h.behind;
+        force = h.back.force;
+        rows = h.top.rows;
+        steps = h.top.steps;
+        least = h.least;
+      }
 
   unfoldable pub AllPlayed : ℕ → ℕ → List Past → ℕ → List Coded → List Segment → List (Option State) → Type 0
   AllPlayed last check final i [] [] fs = Unit {0}

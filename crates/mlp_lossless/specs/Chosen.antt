@@ -15,7 +15,7 @@ use Rattle.mlp_predict.specs.Prediction.{Past}
 use Rattle.mlp_predict.specs.Outputs.{outputs_from, past_from}
 use Rattle.mlp_residual.specs.Block.{code_in}
 use Rattle.mlp_substream.specs.declared.known.Place.{Place}
-use Rattle.mlp_substream.specs.Blocks.{restarted, given, after_head}
+use Rattle.mlp_substream.specs.Blocks.{restarted, given, after_head, force_after}
 use Rattle.mlp_channels.specs.Channels.{Coded, channel_at, step_at, block_frames, past_before}
 use Rattle.mlp_contents.specs.Units.{Left, Unit_of, start, whole, after, coded_at, place_of, no_segment}
 use Rattle.mlp_search.specs.declared.choice.Choice.{Choice}
@@ -26,8 +26,9 @@ use Rattle.mlp_search.specs.Given.{given_by}
 use Rattle.mlp_search.specs.Least.{IsLeast}
 use Rattle.mlp_fifo.specs.Pace.{unit_of}
 use Rattle.mlp_fold.specs.declared.profile.Profile.{Profile}
+use Rattle.mlp_fold.specs.Rows.{rows_of, steps_of}
 use Rattle.mlp_fold.specs.Substreams.{first_channel, last_channel}
-use Rattle.mlp_encode.specs.Numbers.{has_sync, first_frames}
+use Rattle.mlp_encode.specs.Numbers.{has_sync, first_frames, low_zeros}
 use Rattle.mlp_encode.specs.Sync.{sync_of, restart_of}
 use Rattle.mlp_encode.specs.Coding.{code_by}
 use Rattle.mlp_encode.specs.Unit.{output_timing, entry_at, joined}
@@ -101,8 +102,8 @@ abbrev pub block_heads : Option Restart → ℕ → List (ℕ × Option Restart)
 block_heads None frames = (frames, None) ∷ []
 block_heads (Some r) frames = (first_frames, Some r) ∷ (frames - first_frames, None) ∷ []
 
--- The segment of substream i in unit n, where this is in force before it: its blocks and its restart are those of each
--- stream, and each channel of each block is the least choice.
+-- The segment of substream i in unit n, where this is in force before it: its blocks, its restart and the mix are those of
+-- each stream, and each channel of each block is the least choice.
 pub record IsChosenSegment (p : Profile) (i n : ℕ) (place : Place) (x : Coded) (s : Segment) : Type 0 where
   pub padding : s.padding ≡ 0
   -- the lossless check of its restart, if it has one
@@ -110,6 +111,11 @@ pub record IsChosenSegment (p : Profile) (i n : ℕ) (place : Place) (x : Coded)
   pub heads :
       let restart = if has_sync n then Some (restart_of i (output_timing p n) check) else None in
       map (λ h. (h.frames, h.restart)) s.blocks.items ≡ block_heads restart (unit_of p.rate)
+  -- behind it the rows and steps of the mix are in force
+  pub behind : State
+  pub force : force_after place x.force s.blocks.items ≡ Some behind
+  pub rows : behind.rows.items ≡ rows_of p.mix i p.channels
+  pub steps : behind.steps.items ≡ steps_of p.mix (low_zeros p.depth) i
   pub least : (c : ℕ) → first_channel i ≤ c → c ≤ last_channel i → IsLeastSegment place x c s
 
 -- Unit n of a stream for presentation j, where units before it leave this: a major sync stands in every 16th unit and

@@ -33,18 +33,19 @@ so_far units left = record { units = units; end = Ok (Ok left) }
 abbrev pub refused : List (List ℕ) → NoRoom → Stream
 refused units e = record { units = units; end = Err e }
 
--- Of the units of these frames, the last of which is the stream's where `ended`, so many were sent, and the next one has
--- no place: the lengths of those sent have a schedule, and with the length of the next one they have none.
-pub record Stops (p : Profile) (ended : Bool) (frames : List (List (List ℤ))) (units : List (List ℕ)) (e : NoRoom) : Type 0 where
-  -- what the units before it leave
-  pub left : Going
-  pub before : sent false (Ok (going p)) (take (length units) frames) ≡ so_far units left
-  pub unit_is : e.unit ≡ length units
-  pub bytes_are :
-      let unit = slice_index_or frames (length units) [] in
-      let last = ended && (length frames == length units + 1) in
-      e.bytes ≡ body_size (body_of left (unit_sent left unit last))
-  pub lacks : LacksRoom p.kind p.rate (map (λ unit. length unit) units ++ e.bytes ∷ []) e
+module _ (p : Profile) (ended : Bool) (frames : List (List (List ℤ))) where
+  -- Of the units of these frames, the last of which is the stream's where `ended`, so many were sent, and the next one
+  -- has no place: the lengths of those sent have a schedule, and with the length of the next one they have none.
+  pub record Stops (units : List (List ℕ)) (e : NoRoom) : Type 0 where
+    -- what the units before it leave
+    pub left : Going
+    pub before : sent false (Ok (going p)) (take (length units) frames) ≡ so_far units left
+    pub unit_is : e.unit ≡ length units
+    pub bytes_are :
+        let unit = slice_index_or frames (length units) [] in
+        let last = ended && (length frames == length units + 1) in
+        e.bytes ≡ body_size (body_of left (unit_sent left unit last))
+    pub lacks : LacksRoom p.kind p.rate (map (λ unit. length unit) units ++ e.bytes ∷ []) e
 
 -- a whole stream that is refused
 abbrev pub WholeStops : Type 0
