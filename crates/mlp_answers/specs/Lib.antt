@@ -3,3 +3,4 @@ pub mod Answers
 pub mod Works
 pub mod Reading
 pub mod Follows
+pub mod Failures

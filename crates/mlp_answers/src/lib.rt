@@ -5,5 +5,5 @@
 mod failure;
 mod refusal;
 
-pub use failure::Failure;
+pub use failure::{Failure, end_of, failure_by};
 pub use refusal::refusal_of;

@@ -10,7 +10,7 @@ use Rattle.mlp_stream.specs.Gathers.{IsWriteStop}
 use Rattle.mlp_stream.specs.Pumped.{Pumped, Says}
 use Rattle.mlp_answers.specs.declared.failure.Failure.{Failure}
 use Rattle.mlp_answers.specs.declared.failure.Failure.TheVariants.{Usage, OutOfMemory, Stopped}
-use Rattle.mlp_wave.specs.Failures.{failure_by}
+use Rattle.mlp_answers.specs.Failures.{failure_by}
 use Rattle.mlp_recover.specs.Spans.{AreSpans}
 use Rattle.mlp_recover.specs.declared.span.Span.{Span}
 use Rattle.mlp_editing.specs.Copying.{copy_step, copy_last}

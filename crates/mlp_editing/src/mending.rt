@@ -4,26 +4,16 @@ ghost use Rattle.std.specs.Io.KnownBytes.{Consumes};
 ghost use Rattle.mlp_io.specs.Causes.{IsCause};
 ghost use Rattle.mlp_io.specs.Limit.{limit};
 ghost use Rattle.mlp_stream.specs.Sides.{side};
-ghost use Rattle.mlp_wave.specs.Failures.{is_read_failure, is_write_failure, failure_by};
+ghost use Rattle.mlp_answers.specs.Failures.{is_read_failure, is_write_failure};
 ghost use Rattle.mlp_editing.specs.Mended.{Tells, Mended};
 
 use crate::copier::Copier;
 use crate::pieces::put_spans;
-use mlp_answers::Failure;
+use mlp_answers::{Failure, failure_by};
 use mlp_io::{LIMIT, Sink, Source};
 use mlp_recover::recover;
 use mlp_stream::{GrowingSink, Stop, pump};
 use std::alloc::Global;
-
-/// Why copying into memory stops.
-fn failure_of(stop: Stop) -> Failure
-    ensures { result ≡ failure_by stop }
-{
-    match stop {
-        Stop::WriteFault => Failure::OutOfMemory,
-        Stop::Refused(_) | Stop::ReadFault | Stop::TooLong => Failure::Stopped(stop),
-    }
-}
 
 /// Writes what is recovered of bytes.
 fn put_recovered<K: Sink>(alloc: Global, k: u8, bytes: &[u8], output: &mut K) -> Result<(), Failure>
@@ -75,6 +65,6 @@ pub fn recover_input<S: Source, K: Sink>(
             }
             put_recovered(alloc, k, bytes, output)
         }
-        Err(stop) => Err(failure_of(stop)),
+        Err(stop) => Err(failure_by(stop)),
     }
 }

@@ -10,6 +10,7 @@ mod stop;
 mod turns;
 mod window;
 
+pub use gather::put;
 pub use growing::GrowingSink;
 pub use refusal::Refusal;
 pub use session::Session;

@@ -13,7 +13,7 @@ use Rattle.mlp_stream.specs.Moves.{Move}
 use Rattle.mlp_stream.specs.Pumped.{Pumped}
 use Rattle.mlp_answers.specs.declared.failure.Failure.{Failure}
 use Rattle.mlp_answers.specs.declared.failure.Failure.TheVariants.{Usage, OutOfMemory, Stopped}
-use Rattle.mlp_wave.specs.Failures.{is_read_failure, is_write_failure}
+use Rattle.mlp_answers.specs.Failures.{is_read_failure, is_write_failure}
 use Rattle.mlp_tool.specs.Lines.{status_of}
 use Rattle.mlp_tool.specs.Run.{Told, TakesFew}
 

@@ -20,7 +20,7 @@ use Rattle.mlp_extract.specs.Extracting.{extracting}
 use Rattle.mlp_retime.specs.Runs.{Retimes}
 use Rattle.mlp_sessions.specs.Listing.{listing}
 use Rattle.mlp_sessions.specs.Playing.{playing}
-use Rattle.mlp_wave.specs.Failures.{end_of}
+use Rattle.mlp_answers.specs.Failures.{end_of}
 use Rattle.mlp_wave.specs.Saved.{Saved}
 
 -- the work was done, or stopped

@@ -10,14 +10,13 @@ ghost use Rattle.mlp_extract.specs.Extracting.{extracting};
 ghost use Rattle.mlp_retime.specs.Runs.{Retimes};
 ghost use Rattle.mlp_sessions.specs.Listing.{listing};
 ghost use Rattle.mlp_sessions.specs.Playing.{playing};
-ghost use Rattle.mlp_wave.specs.Failures.{end_of};
 ghost use Rattle.mlp_tool.specs.Words.{presentation_in, IsKnown};
 ghost use Rattle.mlp_tool.specs.Lines.{status_of};
 ghost use Rattle.mlp_tool.specs.Run.{Does, TakesFew, Told, Ran};
 
 use crate::line::{line_of, status_of};
 use crate::words::{Command, plain};
-use mlp_answers::Failure;
+use mlp_answers::{Failure, end_of};
 use mlp_check::Check;
 use mlp_cut::Cutter;
 use mlp_editing::recover_input;
@@ -111,7 +110,7 @@ fn check<S: Source, K: Sink>(
 {
     match Check::open(alloc, presentation) {
         Err(_) => Err(Failure::OutOfMemory),
-        Ok(mut session) => failure_of(pump(&mut session, 0, input, output)),
+        Ok(mut session) => end_of(pump(&mut session, 0, input, output)),
     }
 }
 
@@ -126,17 +125,7 @@ fn retime<S: Source, K: Sink>(alloc: Global, input: &mut S, output: &mut K) -> R
 {
     match Retimer::open(alloc) {
         Err(_) => Err(Failure::OutOfMemory),
-        Ok(mut session) => failure_of(pump(&mut session, 0, input, output)),
-    }
-}
-
-/// The end of a run, by that of the work on its input.
-fn failure_of(end: Result<(), Stop>) -> Result<(), Failure>
-    ensures { result ≡ end_of end }
-{
-    match end {
-        Ok(()) => Ok(()),
-        Err(stop) => Err(Failure::Stopped(stop)),
+        Ok(mut session) => end_of(pump(&mut session, 0, input, output)),
     }
 }
 
@@ -158,17 +147,15 @@ fn work<S: Source, K: Sink>(
     match command {
         None => Err(Failure::Usage),
         Some(Command::DecodeRaw { presentation, bits }) => {
-            failure_of(decode(*presentation, *bits, input, output))
+            end_of(decode(*presentation, *bits, input, output))
         }
         Some(Command::DecodeWav { presentation, bits }) => {
             decode_wave(alloc, *presentation, *bits, input, output)
         }
-        Some(Command::Extract { presentation }) => {
-            failure_of(extract(*presentation, input, output))
-        }
-        Some(Command::List) => failure_of(list(input, output)),
+        Some(Command::Extract { presentation }) => { end_of(extract(*presentation, input, output)) }
+        Some(Command::List) => end_of(list(input, output)),
         Some(Command::Check { presentation }) => check(alloc, *presentation, input, output),
-        Some(Command::Cut { first, count }) => failure_of(cut(*first, *count, input, output)),
+        Some(Command::Cut { first, count }) => end_of(cut(*first, *count, input, output)),
         Some(Command::Recover { presentation }) => {
             recover_input(alloc, *presentation, input, output)
         }

@@ -13,7 +13,7 @@ use Rattle.mlp_contents.specs.Units.{Left, Unit_of}
 use Rattle.mlp_sessions.specs.Playing.{places, playing, Player, player, decode_step, decode_last, Played}
 use Rattle.mlp_unit.specs.AccessUnit.{stream_rate}
 use Rattle.mlp_sessions.proofs.PlayFollows.{decode_works, decode_took}
-use Rattle.mlp_wave.specs.Failures.{failure_by, end_of}
+use Rattle.mlp_answers.specs.Failures.{failure_by, end_of}
 use Rattle.mlp_wave.specs.WaveFile.{wave_file, most_of_samples, stated_channels, stated_rate, PutFile}
 use Rattle.mlp_wave.specs.Saved.{Saves, fits, too_many, stops, Begun, Wrote, Saved}
 

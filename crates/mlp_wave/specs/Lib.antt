@@ -1,4 +1,3 @@
 pub mod WaveFile
 pub mod Saved
-pub mod Failures
 pub mod Laws

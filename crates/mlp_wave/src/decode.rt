@@ -4,25 +4,15 @@ ghost use Rattle.std.specs.Io.KnownBytes.{Consumes};
 ghost use Rattle.mlp_io.specs.Causes.{IsCause};
 ghost use Rattle.mlp_io.specs.Limit.{limit};
 ghost use Rattle.mlp_stream.specs.Sides.{side};
-ghost use Rattle.mlp_wave.specs.Failures.{is_read_failure, is_write_failure, failure_by};
+ghost use Rattle.mlp_answers.specs.Failures.{is_read_failure, is_write_failure};
 ghost use Rattle.mlp_wave.specs.Saved.{Saved};
 
 use crate::save::save;
-use mlp_answers::Failure;
+use mlp_answers::{Failure, failure_by};
 use mlp_io::{Sink, Source};
 use mlp_sessions::Decode;
-use mlp_stream::{GrowingSink, Stop, pump};
+use mlp_stream::{GrowingSink, pump};
 use std::alloc::Global;
-
-/// Why decoding into memory stops.
-fn failure_of(stop: Stop) -> Failure
-    ensures { result ≡ failure_by stop }
-{
-    match stop {
-        Stop::WriteFault => Failure::OutOfMemory,
-        Stop::Refused(_) | Stop::ReadFault | Stop::TooLong => Failure::Stopped(stop),
-    }
-}
 
 /// Decodes a presentation from 0 to 2 into a WAVE file of samples of 16 or 24 bits. All samples are held in memory; nothing
 /// is written before the whole input was read and accepted.
@@ -59,6 +49,6 @@ pub fn decode_wave<S: Source, K: Sink>(
                 Err(stop) => Err(Failure::Stopped(stop)),
             }
         }
-        Err(stop) => Err(failure_of(stop)),
+        Err(stop) => Err(failure_by(stop)),
     }
 }

@@ -8,9 +8,9 @@ ghost use Rattle.mlp_stream.specs.Pumped.{is_write_fault};
 ghost use Rattle.mlp_pcm.specs.WaveHeader.{padded};
 ghost use Rattle.mlp_wave.specs.WaveFile.{wave_file, most_of_samples, PutFile};
 
-use mlp_io::{Sink, put_all};
+use mlp_io::Sink;
 use mlp_pcm::write_wave_header;
-use mlp_stream::Stop;
+use mlp_stream::{Stop, put};
 
 /// The most bytes of samples, with the padding byte, that the header states.
 const MOST_OF_SAMPLES: usize = 4_294_967_235;
@@ -26,19 +26,6 @@ fn stated_size(samples: &[u8]) -> Option<u32>
         return None;
     }
     Some(size as u32)
-}
-
-/// Writes all of the bytes.
-fn put<K: Sink>(output: &mut K, bytes: &[u8]) -> Result<(), Stop>
-    ensures ok { OnOk result (Appends (K.written output.old) (K.written output.new) bytes.now) }
-    ensures err { let written = side K.written output.old output.new in
-        IfErr result (λ stop. IsWriteStop written bytes.now stop) }
-    ensures cause { HasCause (K.faults output.old) (K.faults output.new) result }
-{
-    match put_all(output, bytes) {
-        Ok(()) => Ok(()),
-        Err(_) => Err(Stop::WriteFault),
-    }
 }
 
 /// Writes the parts of a file.

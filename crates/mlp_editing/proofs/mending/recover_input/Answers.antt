@@ -14,5 +14,5 @@ returns-in-Ok-clause-mended g c =
 
 pub returns-clause-mended : goal.returns-clause-mended
 returns-clause-mended g c =
-    rw c.failure_of.ensures
+    rw c.failure_by.ensures
     (mended_stops c.args.k c.pump.new.session _ _ _ c.in-Err.stop (rw (c.open-session.ensures, c.new-copy.ensures) at c.in-Err.ensures.pumped) refl)

@@ -5,7 +5,7 @@ use Rattle.mlp_answers.specs.Works.{Works}
 use Rattle.mlp_check.specs.Checking.{checking}
 use Rattle.mlp_check.specs.Runs.{Checks}
 use Rattle.mlp_check.proofs.CheckFollows.{check_works}
-use Rattle.mlp_wave.specs.Failures.{end_of}
+use Rattle.mlp_answers.specs.Failures.{end_of}
 use Rattle.mlp_tool.proofs.top.check.Goals as goal
 
 -- what the work did is what a run of the command did
@@ -15,4 +15,4 @@ checked k input output (Err stop) w = w
 
 pub returns-in-Ok-clause-checks : goal.returns-in-Ok-clause-checks
 returns-in-Ok-clause-checks g c =
-    rw c.failure_of.ensures (checked c.args.presentation _ _ c.pump.result (check_works c.args.presentation _ _ _ c.pump.result (rw c.in-Ok.ensures at c.pump.ensures.pumped)))
+    rw c.end_of.ensures (checked c.args.presentation _ _ c.pump.result (check_works c.args.presentation _ _ _ c.pump.result (rw c.in-Ok.ensures at c.pump.ensures.pumped)))

@@ -5,7 +5,7 @@ use Rattle.mlp_answers.specs.Works.{Works}
 use Rattle.mlp_retime.specs.Retiming.{retiming}
 use Rattle.mlp_retime.specs.Runs.{Retimes}
 use Rattle.mlp_retime.proofs.RetimeFollows.{retime_works}
-use Rattle.mlp_wave.specs.Failures.{end_of}
+use Rattle.mlp_answers.specs.Failures.{end_of}
 use Rattle.mlp_tool.proofs.top.retime.Goals as goal
 
 -- what the work did is what a run of the command did
@@ -15,4 +15,4 @@ retimed input output (Err stop) w = w
 
 pub returns-in-Ok-clause-retimes : goal.returns-in-Ok-clause-retimes
 returns-in-Ok-clause-retimes g c =
-    rw c.failure_of.ensures (retimed _ _ c.pump.result (retime_works _ _ _ c.pump.result (rw c.in-Ok.ensures at c.pump.ensures.pumped)))
+    rw c.end_of.ensures (retimed _ _ c.pump.result (retime_works _ _ _ c.pump.result (rw c.in-Ok.ensures at c.pump.ensures.pumped)))

@@ -14,6 +14,6 @@ returns-in-Ok-clause-saved g c =
 
 pub returns-clause-saved : goal.returns-clause-saved
 returns-clause-saved g c =
-    rw c.failure_of.ensures
+    rw c.failure_by.ensures
     (saved_nothing c.args.presentation c.args.bits c.pump.new.session _ _ _ c.in-Err.stop
     (rw (c.open-session.ensures, c.new-samples.ensures) at c.in-Err.ensures.pumped) refl)

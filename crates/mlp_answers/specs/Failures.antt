@@ -18,14 +18,14 @@ is_write_failure (Err Usage) = false
 is_write_failure (Err OutOfMemory) = false
 is_write_failure (Err (Stopped stop)) = is_write_fault (Err stop)
 
--- what stops the decoding into memory: a write fails for want of it
+-- what stops work into memory: a write fails for want of it
 abbrev pub failure_by : Stop → Failure
 failure_by (Refused r) = Stopped (Refused r)
 failure_by ReadFault = Stopped ReadFault
 failure_by WriteFault = OutOfMemory
 failure_by TooLong = Stopped TooLong
 
--- what stops the writing of the file
+-- how work on an input ends
 abbrev pub end_of : Result Unit Stop → Result Unit Failure
 end_of (Ok _) = Ok tt
 end_of (Err stop) = Err (Stopped stop)
