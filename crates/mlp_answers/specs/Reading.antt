@@ -6,12 +6,17 @@ use Rattle.mlp_walk.specs.declared.refusal.Refusal.TheVariants as declined
 use Rattle.mlp_walk.specs.Next.{Taken, next_of}
 use Rattle.mlp_stream.specs.declared.refusal.Refusal.{Refusal}
 use Rattle.mlp_stream.specs.declared.refusal.Refusal.TheVariants as refused
+use Rattle.mlp_syntax.specs.declared.fault.Field.TheVariants.{UnitHeader}
 use Rattle.mlp_stream.specs.Moves.{Move, Waits, Takes, Refuses}
 
 -- what is refused of a stream, as a session refuses it
 abbrev pub refusal_of : Declined → Refusal
 refusal_of (declined.Fault fault) = refused.Fault fault
 refusal_of (declined.NoPresentation have) = refused.NoPresentation have
+
+-- no bytes have no unit: a stream has one at least
+abbrev pub no_unit : Refusal
+no_unit = refused.Fault (record { unit = 0; substream = 0; field = UnitHeader; bit = 0 })
 
 -- a session that reads units: what they left, their number, the refusal if one came, and by the next unit what comes
 -- out and the session then

@@ -6,4 +6,4 @@ mod failure;
 mod refusal;
 
 pub use failure::{Failure, end_of, failure_by};
-pub use refusal::refusal_of;
+pub use refusal::{no_unit, refusal_of};

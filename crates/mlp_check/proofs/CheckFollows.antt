@@ -41,7 +41,8 @@ use Rattle.mlp_samples.proofs.SyncLaws.{unit_usable, unit_synced}
 use Rattle.mlp_sessions.proofs.NoUnit.{none_read}
 use Rattle.mlp_samples.specs.Samples.{frames_by_steps}
 use Rattle.mlp_check.specs.declared.report.Report.{Report}
-use Rattle.mlp_check.specs.Checking.{output_timing, timing_in, timed_unit, left_behind, IsReport, checking}
+use Rattle.mlp_check.specs.Checking.{output_timing, timing_in, timed_unit, IsReport, checking}
+use Rattle.mlp_samples.specs.Behind.{left_behind}
 use Rattle.mlp_check.specs.Check.{CheckState, check_opened, begun, one_if, after_checked, check_reader, check_step, report_of, report_after, check_last, HasChecked, Checked}
 use Rattle.mlp_check.proofs.Restarts.{timing_is}
 use Rattle.mlp_check.proofs.Reports.{checking_is}

@@ -13,7 +13,8 @@ use Rattle.mlp_samples.specs.Samples.{frames_by_steps}
 use Rattle.mlp_sessions.specs.PlayLaws.{whole_open}
 use Rattle.mlp_check.specs.declared.report.Report.{Report}
 use Rattle.mlp_check.specs.Report.{report_text}
-use Rattle.mlp_check.specs.Checking.{timed_unit, left_behind, IsReport, Reports, checking}
+use Rattle.mlp_check.specs.Checking.{timed_unit, IsReport, Reports, checking}
+use Rattle.mlp_samples.specs.Behind.{left_behind}
 use Rattle.mlp_check.proofs.Timings.{timed_decided}
 
 abbrev pub report_with : ℕ → List Unit_of → Bool → Report

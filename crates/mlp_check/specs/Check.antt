@@ -20,7 +20,8 @@ use Rattle.mlp_present.specs.Decoding.{Held, opened, after_unit, channels_by, is
 use Rattle.mlp_samples.specs.Samples.{frames_by_steps}
 use Rattle.mlp_check.specs.declared.report.Report.{Report}
 use Rattle.mlp_check.specs.Report.{report_text}
-use Rattle.mlp_check.specs.Checking.{timing_in, timed_unit, left_behind}
+use Rattle.mlp_check.specs.Checking.{timing_in, timed_unit}
+use Rattle.mlp_samples.specs.Behind.{left_behind}
 
 -- a decoder, a checker of timings, and of the units taken the number of frames and of major syncs
 pub record CheckState : Type 0 where

@@ -14,6 +14,7 @@ use Rattle.mlp_present.specs.Decoding.{channels_by, is_open_behind}
 use Rattle.mlp_samples.specs.Samples.{frames_by_steps}
 use Rattle.mlp_check.specs.declared.report.Report.{Report}
 use Rattle.mlp_check.specs.Report.{report_text}
+use Rattle.mlp_samples.specs.Behind.{left_behind}
 
 -- ---- the timing of a stream
 
@@ -33,10 +34,6 @@ abbrev pub KeepTiming : Option MajorSync → List Unit_of → Type 0
 KeepTiming sync us = AreTimed (stream_kind sync) (stream_rate sync) (map timed_unit us)
 
 -- ---- the command
-
--- what units leave
-abbrev pub left_behind : ℕ → List Unit_of → Left
-left_behind k us = left_after (whole k) (start k) us
 
 -- what is said of these units
 pub record IsReport (k : ℕ) (us : List Unit_of) (r : Report) : Type 0 where

@@ -26,7 +26,8 @@ use Rattle.mlp_answers.proofs.RunLaws.{works}
 use Rattle.mlp_unit.proofs.OutlineLaws.{outline_is}
 use Rattle.mlp_outline.proofs.Outlines.{outline_bytes}
 use Rattle.mlp_cut.specs.Cutting.{OuterUnit, cut_end, cutting}
-use Rattle.mlp_cut.specs.Cutter.{Held, opened, after_unit, with_after, reader, no_unit, cut_step, cut_last}
+use Rattle.mlp_cut.specs.Cutter.{Held, opened, after_unit, with_after, reader, cut_step, cut_last}
+use Rattle.mlp_answers.specs.Reading.{no_unit}
 use Rattle.mlp_cut.specs.SessionLaws.{outline_open}
 
 abbrev header_missing : Fault

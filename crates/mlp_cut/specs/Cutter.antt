@@ -1,15 +1,13 @@
 -- What a cutter knows, and what it does with the next unit.
 use Rattle.std.specs.Prelude.{ℕ, ◌==◌, Bool, List, option_map, Option, Some, None, Result, Ok, Err, if◌then◌else◌}
-use Rattle.mlp_syntax.specs.declared.fault.Field.TheVariants.{UnitHeader}
 use Rattle.mlp_syntax.specs.declared.major.MajorSync.{MajorSync}
 use Rattle.mlp_stream.specs.declared.refusal.Refusal.{Refusal}
-use Rattle.mlp_stream.specs.declared.refusal.Refusal.TheVariants.{Fault}
 use Rattle.mlp_stream.specs.Moves.{Move}
 use Rattle.mlp_walk.specs.Next.{Taken}
 use Rattle.mlp_walk.specs.declared.refusal.Refusal.{Refusal as Declined}
 use Rattle.mlp_unit.specs.AccessUnit.{AccessUnit}
 use Rattle.mlp_unit.specs.Outline.{outline}
-use Rattle.mlp_answers.specs.Reading.{refusal_of, Reader, read_step}
+use Rattle.mlp_answers.specs.Reading.{refusal_of, no_unit, Reader, read_step}
 use Rattle.mlp_outline.specs.Outlining.{Outlined, nothing_read, after_outline}
 use Rattle.mlp_cut.specs.Cut.{unit_bytes}
 use Rattle.mlp_cut.specs.Cutting.{is_open_outline, cut_out, cut_end}
@@ -52,10 +50,6 @@ cut_step = read_step outline None is_open_outline reader
 
 abbrev pub cut_count : Held → ℕ
 cut_count held = held.read.units
-
--- a stream has a unit at least
-abbrev pub no_unit : Refusal
-no_unit = Fault (record { unit = 0; substream = 0; field = UnitHeader; bit = 0 })
 
 abbrev pub last_of : Option Refusal → ℕ → ℕ → ℕ → Result (List ℕ) Refusal
 last_of (Some refusal) f c n = Err refusal

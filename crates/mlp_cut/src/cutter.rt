@@ -6,10 +6,10 @@ ghost use Rattle.mlp_cut.specs.Cutter.{held_with, opened, last_of, cut_step, cut
 ghost use Rattle.mlp_io.specs.Limit.{limit};
 ghost use Rattle.mlp_stream.specs.Moves.{said, moved};
 
-use mlp_answers::refusal_of;
+use mlp_answers::{no_unit, refusal_of};
 use mlp_outline::Outliner;
 use mlp_stream::{Refusal, Session};
-use mlp_syntax::{Fault, Field, MajorSync, UnitBytes};
+use mlp_syntax::{MajorSync, UnitBytes};
 use std::marker::Model;
 
 /// Whether the unit of this number is in the cut.
@@ -83,12 +83,7 @@ fn last_word(refusal: Option<Refusal>, first: u64, count: u64, units: u64) -> Re
         return Err(refusal);
     }
     if units == 0 {
-        return Err(Refusal::Fault(Fault {
-            unit: 0,
-            substream: 0,
-            field: Field::UnitHeader,
-            bit: 0,
-        }));
+        return Err(no_unit());
     }
     if units < first || units - first < count {
         return Err(Refusal::NotThere { units });

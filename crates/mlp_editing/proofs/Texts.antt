@@ -32,7 +32,7 @@ use Rattle.mlp_decoded.specs.Decoded.{channels, decoded}
 use Rattle.mlp_decoded.proofs.DecodedLaw.{channels_behind, writes_all}
 use Rattle.mlp_wave.proofs.Parts.{in_first, in_second}
 use Rattle.mlp_recover.specs.declared.span.Span.{Span}
-use Rattle.mlp_recover.specs.Interval.{left_behind}
+use Rattle.mlp_samples.specs.Behind.{left_behind}
 use Rattle.mlp_recover.specs.Recovered.{Piece, Lost, Kept}
 use Rattle.mlp_recover.specs.Spans.{span_of}
 use Rattle.mlp_editing.specs.Told.{lost_line, kept_line, told, all_told, Puts, IsSpan, AreSpansOf}

@@ -24,7 +24,8 @@ use Rattle.mlp_contents.specs.Units.{Left, Unit_of, start, after, whole}
 use Rattle.mlp_samples.specs.Samples.{first_sync}
 use Rattle.mlp_samples.proofs.SyncLaws.{unit_usable}
 use Rattle.mlp_samples.proofs.Streams.{left_is}
-use Rattle.mlp_check.specs.Checking.{timed_unit, KeepTiming, left_behind}
+use Rattle.mlp_check.specs.Checking.{timed_unit, KeepTiming}
+use Rattle.mlp_samples.specs.Behind.{left_behind}
 use Rattle.mlp_check.proofs.Rates.{rate_is}
 use Rattle.mlp_extracted.specs.Extracted.{extracted_unit, extracted_units}
 use Rattle.mlp_extracted.proofs.Extraction.{Tells, EachOuter, each_outer, fewer_left, left_kept}

@@ -4,7 +4,8 @@ ghost use Rattle.mlp_bits.specs.Bits.{bits_of};
 ghost use Rattle.mlp_layout.specs.Streams.{Stream};
 ghost use Rattle.mlp_contents.specs.Units.{Unit_of, start, whole};
 ghost use Rattle.mlp_extract.specs.Extract.{extract};
-ghost use Rattle.mlp_check.specs.Checking.{KeepTiming, left_behind};
+ghost use Rattle.mlp_check.specs.Checking.{KeepTiming};
+ghost use Rattle.mlp_samples.specs.Behind.{left_behind};
 ghost use Rattle.mlp_extracted.specs.Lower.{lowered};
 ghost use Rattle.mlp_extracted.specs.Extracted.{extracted_units, PlaysSame, IsExtractedFrom};
 

@@ -19,7 +19,8 @@ use Rattle.mlp_contents.specs.Units.{Unit_of, coded_at, place_of, is_checked, to
 use Rattle.mlp_samples.specs.Leaving.{matrix_of, matrix_in_force}
 use Rattle.mlp_samples.proofs.UnitParts.{unit_count, unit_allowed}
 use Rattle.mlp_samples.proofs.Streams.{restart_there}
-use Rattle.mlp_recover.specs.Interval.{left_behind, GoesOn, Interval}
+use Rattle.mlp_recover.specs.Interval.{GoesOn, Interval}
+use Rattle.mlp_samples.specs.Behind.{left_behind}
 use Rattle.mlp_recover.specs.Laws.{CarriesCheck}
 use Rattle.mlp_recover.proofs.Intervals.{interval_some, interval_taken}
 

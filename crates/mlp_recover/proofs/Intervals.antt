@@ -18,7 +18,8 @@ use Rattle.mlp_walk.specs.Next.{next_of}
 use Rattle.mlp_walk.proofs.WalkLaws.{longer, begins_behind, first_next, some_bits, next_there, units_some}
 use Rattle.mlp_contents.specs.Units.{Left, Unit_of, start, whole}
 use Rattle.mlp_contents.proofs.FormatLaws.{whole_is}
-use Rattle.mlp_recover.specs.Interval.{left_behind, HasNoSync, Interval, NoneAt}
+use Rattle.mlp_recover.specs.Interval.{HasNoSync, Interval, NoneAt}
+use Rattle.mlp_samples.specs.Behind.{left_behind}
 use Rattle.mlp_recover.proofs.Fronts.{begins_front}
 
 -- ---- bytes and their bits

@@ -13,7 +13,8 @@ use Rattle.mlp_walk.proofs.NextLaws.{from_unit, unit_within}
 use Rattle.mlp_walk.proofs.WalkLaws.{taken_none, takes_one}
 use Rattle.mlp_contents.specs.Units.{Unit_of, start, whole}
 use Rattle.mlp_contents.proofs.FormatLaws.{whole_is, whole_bytes}
-use Rattle.mlp_recover.specs.Interval.{left_behind, GoesOn, HasNoSync, Interval, NoneAt}
+use Rattle.mlp_recover.specs.Interval.{GoesOn, HasNoSync, Interval, NoneAt}
+use Rattle.mlp_samples.specs.Behind.{left_behind}
 use Rattle.mlp_recover.specs.Recovered.{Piece, Lost, Kept, Tile, Apart, IsRight, AreRecovered}
 use Rattle.mlp_recover.proofs.Intervals.{Taken, taken_stream, refused_at}
 use Rattle.mlp_recover.proofs.Steps.{alone_more, one_more, none_of}

@@ -29,7 +29,8 @@ use Rattle.mlp_present.specs.Parts.{Next}
 use Rattle.mlp_present.specs.Decoding.{Held, opened, unless_refused, next_unit, after_unit, GivesUnit, channels_by}
 use Rattle.mlp_present.specs.Laws.{HoldsUnits}
 use Rattle.mlp_recover.specs.declared.reach.Reach.{Reach}
-use Rattle.mlp_recover.specs.Interval.{left_behind, HasNoSync, NoneAt}
+use Rattle.mlp_recover.specs.Interval.{HasNoSync, NoneAt}
+use Rattle.mlp_samples.specs.Behind.{left_behind}
 use Rattle.mlp_recover.specs.Reading.{has_major, is_behind, NoFirst, IsRateOf, IsRead, IsGrowing, one_on, IsReached, IsKeptFrom}
 use Rattle.mlp_recover.proofs.Intervals.{interval_some, interval_taken, taken_stream, refused_at}
 use Rattle.mlp_recover.proofs.Syncs.{first_major, first_of_units}

@@ -3,10 +3,7 @@ use Rattle.std.specs.Prelude.{◌≡◌, ℕ, ◌<◌, ◌≤◌, true, List, le
 use Rattle.mlp_bits.specs.Bits.{bits_of}
 use Rattle.mlp_layout.specs.Streams.{IsNext, Stream, left_after}
 use Rattle.mlp_contents.specs.Units.{Left, Unit_of, start, whole}
-
--- what the units of a stream for presentation k leave
-abbrev pub left_behind : ℕ → List Unit_of → Left
-left_behind k us = left_after (whole k) (start k) us
+use Rattle.mlp_samples.specs.Behind.{left_behind}
 
 -- behind these units the bytes go on with one more unit of their stream, which has a major sync
 pub record GoesOn (k : ℕ) (us : List Unit_of) (rest : List ℕ) : Type 0 where

@@ -4,7 +4,8 @@ use Rattle.mlp_syntax.specs.declared.restart.Restart.{Restart}
 use Rattle.mlp_output.specs.Output.{folded}
 use Rattle.mlp_contents.specs.Known.{first_restart}
 use Rattle.mlp_contents.specs.Units.{Unit_of, top_of}
-use Rattle.mlp_recover.specs.Interval.{left_behind, Interval}
+use Rattle.mlp_recover.specs.Interval.{Interval}
+use Rattle.mlp_samples.specs.Behind.{left_behind}
 use Rattle.mlp_recover.specs.Recovered.{Piece, AreRecovered}
 
 -- at most one interval begins at a byte

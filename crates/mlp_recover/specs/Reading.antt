@@ -13,7 +13,8 @@ use Rattle.mlp_recover.specs.declared.span.Span.{Span}
 use Rattle.mlp_recover.specs.declared.reach.Reach.{Reach}
 use Rattle.mlp_recover.specs.declared.reach.Reading.{Reading}
 use Rattle.mlp_recover.specs.declared.reach.Reading.TheVariants.{More, Whole, Broken}
-use Rattle.mlp_recover.specs.Interval.{left_behind, HasNoSync, Interval, NoneAt}
+use Rattle.mlp_recover.specs.Interval.{HasNoSync, Interval, NoneAt}
+use Rattle.mlp_samples.specs.Behind.{left_behind}
 use Rattle.mlp_recover.specs.Recovered.{Piece, Lost, Kept, is_lost, Tile, Apart, IsRight}
 use Rattle.mlp_recover.specs.Spans.{span_of, HasFewFrames}
 

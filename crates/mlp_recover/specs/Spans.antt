@@ -4,7 +4,7 @@ use Rattle.mlp_unit.specs.AccessUnit.{stream_rate}
 use Rattle.mlp_samples.specs.Samples.{samples}
 use Rattle.mlp_present.specs.Decoding.{channels_by}
 use Rattle.mlp_recover.specs.declared.span.Span.{Span}
-use Rattle.mlp_recover.specs.Interval.{left_behind}
+use Rattle.mlp_samples.specs.Behind.{left_behind}
 use Rattle.mlp_recover.specs.Recovered.{Piece, Lost, Kept, AreRecovered}
 
 -- its numbers: of a kept piece the units, the frames of the presentation, its channels and its rate

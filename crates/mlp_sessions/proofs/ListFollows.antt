@@ -24,7 +24,8 @@ use Rattle.mlp_answers.proofs.RunLaws.{works}
 use Rattle.mlp_answers.proofs.SomeAnswer.{has_one_answer}
 use Rattle.mlp_outline.specs.Outlining.{Outlined, nothing_read, after_outline}
 use Rattle.mlp_sessions.specs.ListLine.{unit_line}
-use Rattle.mlp_sessions.specs.Listing.{OutlineUnit, listing, list_reader, list_step, list_last, no_unit, Listed}
+use Rattle.mlp_sessions.specs.Listing.{OutlineUnit, listing, list_reader, list_step, list_last, Listed}
+use Rattle.mlp_answers.specs.Reading.{no_unit}
 use Rattle.mlp_unit.proofs.OutlineLaws.{outline_is}
 use Rattle.mlp_outline.proofs.Outlines.{outline_bytes, outline_broken}
 use Rattle.mlp_sessions.specs.ListLaws.{outline_open}

@@ -1,17 +1,15 @@
 -- What `list` makes of a stream.
 use Rattle.std.specs.Prelude.{◌≡◌, ℕ, ◌==◌, if◌then◌else◌, Bool, List, [], length, Option, None, Result, Ok, Err}
 use Rattle.std.specs.Option.{option_map}
-use Rattle.mlp_syntax.specs.declared.fault.Field.TheVariants as rule
 use Rattle.mlp_syntax.specs.declared.major.MajorSync.{MajorSync}
 use Rattle.mlp_layout.specs.Streams.{UnitOf}
 use Rattle.mlp_unit.specs.AccessUnit.{AccessUnit}
 use Rattle.mlp_unit.specs.Outline.{outline}
 use Rattle.mlp_walk.specs.Next.{Taken}
 use Rattle.mlp_stream.specs.declared.refusal.Refusal.{Refusal}
-use Rattle.mlp_stream.specs.declared.refusal.Refusal.TheVariants as refused
 use Rattle.mlp_stream.specs.Moves.{Move}
 use Rattle.mlp_answers.specs.Working.{Working, left_of}
-use Rattle.mlp_answers.specs.Reading.{refusal_of, Reader, read_step}
+use Rattle.mlp_answers.specs.Reading.{refusal_of, no_unit, Reader, read_step}
 use Rattle.mlp_outline.specs.Next.{is_open}
 use Rattle.mlp_outline.specs.Outlining.{Outlined, after_outline}
 use Rattle.mlp_sessions.specs.ListLine.{unit_line}
@@ -52,10 +50,6 @@ list_reader = record {
 
 abbrev pub list_step : Outlined → Bool → List ℕ → Move Outlined
 list_step = read_step outline None is_open_outline list_reader
-
--- no bytes have no unit
-abbrev pub no_unit : Refusal
-no_unit = refused.Fault (record { unit = 0; substream = 0; field = rule.UnitHeader; bit = 0 })
 
 abbrev pub list_last : Outlined → Result (List ℕ) Refusal
 list_last held = if held.units == 0 then Err no_unit else Ok []

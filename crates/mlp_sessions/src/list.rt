@@ -1,12 +1,11 @@
 //! The session of `list`.
 ghost use Rattle.std.specs.Prelude.{◌≡◌};
-ghost use Rattle.mlp_sessions.specs.Listing.{no_unit};
 
 use crate::list_line::unit_line;
-use mlp_answers::refusal_of;
+use mlp_answers::{no_unit, refusal_of};
 use mlp_outline::Outliner;
 use mlp_stream::{Refusal, Session};
-use mlp_syntax::{Fault, Field, UnitBytes};
+use mlp_syntax::UnitBytes;
 use std::marker::Model;
 
 /// Writes a line for each access unit. To a contract it is its reader of outer parts.
@@ -21,18 +20,6 @@ impl Model for List {
     ghost Value = { Outlined };
 
     ghost view = { λ s. s.outliner };
-}
-
-/// Why an input without bytes is refused.
-fn no_unit() -> Refusal
-    ensures { result ≡ no_unit }
-{
-    Refusal::Fault(Fault {
-        unit: 0,
-        substream: 0,
-        field: Field::UnitHeader,
-        bit: 0,
-    })
 }
 
 impl List {
