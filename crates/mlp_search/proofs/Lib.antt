@@ -20,3 +20,5 @@ pub mod ComputedPairs
 pub mod BoundLaws
 pub mod FoldSteps
 pub mod KeptLaws
+pub mod LineLaws
+pub mod LineFits

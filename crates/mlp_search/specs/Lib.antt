@@ -3,4 +3,5 @@ pub mod Candidates
 pub mod Given
 pub mod Cost
 pub mod Trial
+pub mod Lines
 pub mod Least

@@ -7,6 +7,7 @@ mod costs;
 mod folds;
 mod giving;
 pub mod laws;
+mod line;
 mod pair;
 mod reduction;
 mod search;

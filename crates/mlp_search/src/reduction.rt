@@ -9,8 +9,10 @@ ghost use Rattle.mlp_params.specs.States.{IsChannelState};
 ghost use Rattle.mlp_search.specs.Candidates.{pair_of, past_for, residuals_for, past_behind};
 ghost use Rattle.mlp_predict.specs.Filters.{AreFilters, IsState};
 ghost use Rattle.mlp_search.specs.Cost.{cost_of};
+ghost use Rattle.mlp_search.specs.Lines.{IsIn};
 
 use crate::choice::Choice;
+use crate::line::{Line, reduce_in};
 use crate::pair::{Pair, pair_of};
 use arrayvec::ArrayVec;
 use mlp_params::ChannelState;
@@ -66,7 +68,7 @@ pub(crate) fn residuals_for(
 }
 
 /// Puts residuals that are whole steps of 2^step in steps.
-fn count_steps(step: u8, residuals: &mut [i32])
+pub(crate) fn count_steps(step: u8, residuals: &mut [i32])
     requires step { step ≤ 8 }
     requires whole { All (λ r. clear step r ≡ r) residuals.old }
     ensures { map (stepped step) residuals.new ≡ residuals.old }
@@ -84,17 +86,24 @@ pub(crate) fn values_for(
     number: u8,
     pair: &Pair,
     samples: &[i32],
+    line: &Line<'_>,
     values: &mut [i32],
 ) -> bool
     requires step { step ≤ 8 }
     requires filters { AreFilters pair.now.fir pair.now.iir }
     requires whole { All (λ x. clear step x ≡ x) samples.now }
+    requires line { IsTrue line.now.narrow → IsIn step history.now samples.now line.now }
     requires room { length samples.now ≡ length values.old }
     ensures fit { IsTrue result
         ↔ All (FitsSigned w32) (residuals_for history.now step samples.now number pair.now) }
     ensures values { IsTrue result →
         map (stepped step) values.new ≡ residuals_for history.now step samples.now number pair.now }
 {
+    if line.narrow {
+        if reduce_in(pair, line, values) {
+            return true;
+        }
+    }
     if !residuals_for(history, step, number, pair, samples, values) {
         return false;
     }

@@ -1,15 +1,18 @@
 //! The choice for a block.
 
-ghost use Rattle.std.specs.Prelude.{◌≡◌, ◌≤◌, ◌*◌, ◌+◌, length, All, true, false, Some, None};
+ghost use Rattle.std.specs.Prelude.{◌≡◌, ◌≤◌, ◌*◌, ◌+◌, length, All, IsTrue, true, false, Some, None};
+ghost use Rattle.std.specs.List.{flat_map, range_with_len};
 ghost use Rattle.mlp_search.specs.Candidates.{AreComputed};
 ghost use Rattle.mlp_arith.specs.Words.{clear};
 ghost use Rattle.mlp_arith.specs.Ranges.{Is26};
 ghost use Rattle.mlp_params.specs.Filters.{order_of};
 ghost use Rattle.mlp_params.specs.States.{IsChannelState};
 ghost use Rattle.mlp_search.specs.Cost.{cost_of};
+ghost use Rattle.mlp_search.specs.Lines.{IsIn};
 ghost use Rattle.mlp_search.specs.Least.{least_from, with_books, middle_for, chosen, IsLeast};
 
 use crate::choice::Choice;
+use crate::line::{Line, put_line};
 use crate::pair::pair_from;
 use crate::reduction::values_for;
 use crate::trial::trial_of;
@@ -28,6 +31,8 @@ fn with_filters(
     number: u8,
     computed: &[Filter<8>],
     samples: &[i32],
+    line: &Line<'_>,
+    values: &mut [i32],
     best: Option<Choice>,
 ) -> Option<Choice>
     requires state { IsChannelState state.now }
@@ -37,6 +42,8 @@ fn with_filters(
     requires whole { All (λ x. clear step x ≡ x) samples.now }
     requires computed { AreComputed step samples.now computed.now }
     requires stateless { All (λ fir. fir.state ≡ None) computed.now }
+    requires line { IsTrue line.now.narrow → IsIn step history.now samples.now line.now }
+    requires room { length samples.now ≡ length values.old }
     ensures { let mid = middle_for state.now history.now step samples.now number in result
         ≡ least_from (cost_of state.now history.now step true samples.now) best
         (with_books number mid) }
@@ -45,13 +52,56 @@ fn with_filters(
         Some(pair) => pair,
         None => return best,
     };
-    let mut line = [0; 160];
-    let values = &mut line[..samples.len()];
-    if !values_for(history, step, number, &pair, samples, values) {
+    if !values_for(history, step, number, &pair, samples, line, values) {
         return best;
     }
     let trial = trial_of(state, 0, number, pair, values);
     with_books(state, step, &trial, values, best)
+}
+
+/// The best of the filters of the numbers below `count`, over buffers for the block and 8 values more.
+fn best_of(
+    state: &ChannelState,
+    history: &Predictor<8, 4>,
+    step: u8,
+    count: u8,
+    computed: &[Filter<8>],
+    samples: &[i32],
+    whole: &mut [i32],
+    high: &mut [i32],
+    low: &mut [i32],
+    values: &mut [i32],
+) -> Option<Choice>
+    requires state { IsChannelState state.now }
+    requires step { step ≤ 8 }
+    requires few { length samples.now ≤ 160 }
+    requires samples { All Is26 samples.now }
+    requires whole { All (λ x. clear step x ≡ x) samples.now }
+    requires computed { AreComputed step samples.now computed.now }
+    requires stateless { All (λ fir. fir.state ≡ None) computed.now }
+    requires whole_room { length whole.old ≡ 8 + length samples.now }
+    requires high_room { length high.old ≡ 8 + length samples.now }
+    requires low_room { length low.old ≡ 8 + length samples.now }
+    requires room { length samples.now ≡ length values.old }
+    ensures { result
+        ≡ least_from (cost_of state.now history.now step true samples.now) None
+        (flat_map (λ n. with_books n (middle_for state.now history.now step samples.now n))
+        (range_with_len 0 count)) }
+{
+    let narrow = put_line(history, step, samples, whole, high, low);
+    let line = Line {
+        narrow,
+        whole,
+        high,
+        low,
+    };
+    let mut best = None;
+    for number in 0..count {
+        best = with_filters(
+            state, history, step, number, computed, samples, &line, values, best,
+        );
+    }
+    best
 }
 
 /// The choice for a block of 1 to 160 samples: the first, by filter, book, low bits and offset, of those that cost least.
@@ -79,9 +129,22 @@ pub fn choose(
     let mut computed = ArrayVec::new();
     levinson_all(samples, step, &mut computed);
     let count = if filters { 18 } else { 1 };
-    let mut best = None;
-    for number in 0..count {
-        best = with_filters(state, history, step, number, &computed, samples, best);
-    }
+    let end = 8 + samples.len();
+    let mut whole = [0; 168];
+    let mut high = [0; 168];
+    let mut low = [0; 168];
+    let mut values = [0; 160];
+    let best = best_of(
+        state,
+        history,
+        step,
+        count,
+        &computed,
+        samples,
+        &mut whole[..end],
+        &mut high[..end],
+        &mut low[..end],
+        &mut values[..samples.len()],
+    );
     best.unwrap_or(choice_of(0, 0, 0, 0))
 }

@@ -1,0 +1,38 @@
+-- A block in one line behind the latest outputs, the oldest first, in quantisation steps.
+use Rattle.std.specs.Prelude.{◌≡◌, ℕ, List, [], ◌++◌, map, length, take, drop, reverse, All, ℤ, pos, neg_ℤ, ◌-ℤ◌, ◌≤ℤ◌}
+use Rattle.mlp_arith.specs.Words.{floor_by, clear}
+use Rattle.mlp_arith.specs.Ranges.{Is26}
+use Rattle.mlp_predict.specs.Prediction.{Filters, Past, residuals_of}
+use Rattle.mlp_predict.specs.Lines.{past_in}
+use Rattle.mlp_search.specs.declared.line.Line.{Line}
+use Rattle.mlp_search.specs.Folded.{stepped}
+
+-- what a value has above its multiple of 2^13
+abbrev pub low_part : ℤ → ℤ
+low_part v = v -ℤ clear 13 v
+
+-- a block behind 8 outputs, and the high and the low parts of all
+pub record IsLine (step : ℕ) (past : Past) (samples whole high low : List ℤ) : Type 0 where
+  pub eight : length past.outputs ≡ 8
+  pub steps : map (stepped step) whole ≡ reverse past.outputs ++ samples
+  pub small : All Is26 (map (stepped step) whole)
+  pub words : All Is26 whole
+  pub high_parts : high ≡ map (floor_by 13) whole
+  pub low_parts : low ≡ map low_part whole
+
+-- these are the parts of a line
+abbrev pub IsIn : ℕ → Past → List ℤ → Line → Type 0
+IsIn step past samples line = IsLine step past samples line.whole.now line.high.now line.low.now
+
+-- a FIR of these coefficients, without an IIR
+abbrev pub alone_by : List ℤ → ℕ → Filters
+alone_by fir shift = record { fir = fir; iir = []; shift = shift }
+
+-- what filters leave of a block behind 8 outputs
+abbrev pub left_in : Filters → List ℤ → List ℤ
+left_in f whole = residuals_of f (past_in (take 8 whole) []) 0 (drop 8 whole)
+
+-- a coefficient of a size of at most 15
+pub record IsLight (c : ℤ) : Type 0 where
+  pub low : neg_ℤ (pos 15) ≤ℤ c
+  pub high : c ≤ℤ pos 15
