@@ -10,10 +10,11 @@ fn folded(x: i32) -> u32
     requires high { x <ℤ pos (2 ^ 30) }
     ensures { result ≡ folded x }
 {
+    let twice = 2 * x.unsigned_abs();
     if x < 0 {
-        return (-1 - x - x).cast_unsigned();
+        return twice - 1;
     }
-    (x + x).cast_unsigned()
+    twice
 }
 
 /// A value that is moved by an offset and folded.
