@@ -1,6 +1,6 @@
 -- How many bits a block that is sent takes at most.
 use Rattle.std.proofs.Common.{◌≡◌, ℕ, zero, suc, ◌+◌, ◌-◌, ◌*◌, ◌≤◌, pos, Bool, true, false, List, [], ◌++◌, drop, map, length, get_or, Option, Some, None, refl, ap, ◌∙◌, subst, arith}
-use Rattle.std.specs.Prelude.{◌==◌, ◌&&◌, not, nat_lt, if◌then◌else◌}
+use Rattle.std.specs.Prelude.{◌==◌, not, nat_lt, if◌then◌else◌}
 use Rattle.std.specs.List.{range_with_len, list_any}
 use Rattle.std.proofs.lemmas.List.{length-append, length-map}
 use Rattle.std.proofs.lemmas.List.FromFn.{length-map-range_with_len, get_or-map-range_with_len}
@@ -25,13 +25,14 @@ use Rattle.mlp_channels.specs.Channels.{channel_at}
 use Rattle.mlp_channels.specs.Playing.{past_of_channel}
 use Rattle.mlp_fold.specs.declared.profile.Profile.{Profile}
 use Rattle.mlp_fold.specs.declared.profile.Mix.{Mix}
+use Rattle.mlp_fold.specs.declared.profile.Mix.TheVariants.{Split, Fold, Bypass, Side}
 use Rattle.mlp_fold.specs.declared.coding.CodedFrame.{CodedFrame}
 use Rattle.mlp_fold.specs.Rows.{steps_of}
 use Rattle.mlp_fold.specs.Substreams.{first_channel, last_channel}
 use Rattle.mlp_encode.specs.Numbers.{low_zeros}
 use Rattle.mlp_encode.specs.Coding.{Sent, nothing, column}
 use Rattle.mlp_encode.specs.Blocks.{Force, channel_in, sent_in, size_with, rows_with, steps_with, params_of, bypass_in, frame_code, codes_in}
-use Rattle.mlp_encode.specs.Lawful.{IsSendable, rows_size, bypass_size}
+use Rattle.mlp_encode.specs.Lawful.{IsSendable, rows_size, steps_size, bypass_size}
 use Rattle.mlp_encode.proofs.SentBlocks.{after, coding, coding_is, channels, to_last, rows_are}
 use Rattle.mlp_encode.proofs.SentCosts.{channel_cost}
 use Rattle.mlp_encode.proofs.Sums.{sums, sums_most, sums_add, sums_swap, series_long}
@@ -65,9 +66,27 @@ abbrev pub rows_given : Bool → Mix → ℕ → ℕ
 rows_given true mix j = rows_size mix j
 rows_given false mix j = 1
 
-abbrev pub steps_given : Bool → ℕ → ℕ
-steps_given true j = 1 + 4 * (last_channel j + 1)
-steps_given false j = 1
+abbrev pub steps_given : Bool → Mix → ℕ → ℕ
+steps_given true mix j = steps_size mix j
+steps_given false mix j = 1
+
+-- the steps of a mix, where one of them isn't 0
+abbrev steps_text : ℕ → List ℕ → List Bool
+steps_text m xs = (group true (listed m (number_of 4))).spelling (if list_any (nat_lt 0) xs then Some (record { items = xs }) else None)
+
+steps_any : (m : ℕ) (xs : List ℕ) → length (steps_text m xs) ≤ 1 + m * 4
+steps_any m xs = pick (list_any (nat_lt 0) xs)
+  where
+    pick : (t : Bool) → length ((group true (listed m (number_of 4))).spelling (if t then Some (record { items = xs }) else None)) ≤ 1 + m * 4
+    pick true = let e = some_long (listed m (number_of 4)) (record { items = xs }) in omega (arith, e, numbers_most m xs)
+    pick false = let e = none_long (listed m (number_of 4)) in omega (arith, e)
+
+steps_most : (mix : Mix) (j q m : ℕ) → m ≡ last_channel j + 1 → length (steps_text m (steps_of mix q j)) ≤ steps_size mix j
+steps_most Split j q m e = omega (arith, e, steps_any m (steps_of Split q j))
+steps_most Fold j q m e = omega (arith, e, steps_any m (steps_of Fold q j))
+steps_most Bypass zero q m e = let none = none_long (listed m (number_of 4)) in omega (arith, none)
+steps_most Bypass (suc j) q m e = omega (arith, e, steps_any m (steps_of Bypass q (suc j)))
+steps_most Side j q m e = omega (arith, e, steps_any m (steps_of Side q j))
 
 module _ (j : ℕ) (p : Profile) (restarts : Bool) (s : State) (pasts : List Past) (frames : List CodedFrame) (h : IsSendable j p restarts s frames) where
   abbrev before : Force
@@ -110,15 +129,12 @@ module _ (j : ℕ) (p : Profile) (restarts : Bool) (s : State) (pasts : List Pas
       pick true = rows_most s.format s.restart p.mix j p.channels p.depth (record { kind = h.begun.kind; max_matrix = h.begun.max_matrix }) h.shape.shape h.top h.codable.which
       pick false = let e = none_long (rows s.format s.restart) in omega (arith, e)
 
-  steps_bits : length ((group true (listed (s.restart.max + 1) (number_of 4))).spelling (steps_with j p restarts)) ≤ steps_given restarts j
-  steps_bits = pick restarts (list_any (nat_lt 0) (steps_of p.mix (low_zeros p.depth) j))
+  steps_bits : length ((group true (listed (s.restart.max + 1) (number_of 4))).spelling (steps_with j p restarts)) ≤ steps_given restarts p.mix j
+  steps_bits = pick restarts
     where
-      pick : (t some : Bool) → length ((group true (listed (s.restart.max + 1) (number_of 4))).spelling (if t && some then Some (record { items = steps_of p.mix (low_zeros p.depth) j }) else None)) ≤ steps_given t j
-      pick true true =
-          let e = some_long (listed (s.restart.max + 1) (number_of 4)) (record { items = steps_of p.mix (low_zeros p.depth) j }) in
-          omega (arith, e, numbers_most (s.restart.max + 1) (steps_of p.mix (low_zeros p.depth) j), h.begun.max)
-      pick true false = let e = none_long (listed (s.restart.max + 1) (number_of 4)) in omega (arith, e)
-      pick false some = let e = none_long (listed (s.restart.max + 1) (number_of 4)) in omega (arith, e)
+      pick : (t : Bool) → length ((group true (listed (s.restart.max + 1) (number_of 4))).spelling (steps_with j p t)) ≤ steps_given t p.mix j
+      pick true = steps_most p.mix j (low_zeros p.depth) (s.restart.max + 1) (ap (λ (m : ℕ). m + 1) h.begun.max)
+      pick false = let e = none_long (listed (s.restart.max + 1) (number_of 4)) in omega (arith, e)
 
   channels_bits : length ((each (λ c. group true (channel 0xFF c)) (drop s.restart.min s.channels.items)).spelling (map (λ x. x.given) (sent_in j p restarts before frames))) ≡ sums parameters from count
   channels_bits =
@@ -127,7 +143,7 @@ module _ (j : ℕ) (p : Profile) (restarts : Bool) (s : State) (pasts : List Pas
       ∙ ap (λ (gs : List (Option ChannelParams)). length ((each l (drop from s.channels.items)).spelling gs)) (map-map (λ (y : Sent). y.given) sent (range_with_len from count))
       ∙ each_long l s.channels.items restarted_channel (λ (c : ℕ). (sent c).given) from count (channels j p restarts s pasts frames h)
 
-  groups_bits : length ((groups s None 0xFF).spelling written) ≤ 11 + rows_given restarts p.mix j + steps_given restarts j + sums parameters from count
+  groups_bits : length ((groups s None 0xFF).spelling written) ≤ 11 + rows_given restarts p.mix j + steps_given restarts p.mix j + sums parameters from count
   unfolding groups part made
   groups_bits =
       let a = (group true (block_size_of s.unit_frames)).spelling (size_with s (length frames)) in
@@ -137,7 +153,7 @@ module _ (j : ℕ) (p : Profile) (restarts : Bool) (s : State) (pasts : List Pas
       let e = (each (λ c. group true (channel 0xFF c)) (drop s.restart.min s.channels.items)).spelling (map (λ x. x.given) (sent_in j p restarts before frames)) in
       omega (arith, five_long a b c d e, size_most, rows_bits, none_long (listed (s.restart.max_matrix + 1) output_shift), steps_bits, channels_bits)
 
-  pub params_bits : length ((params s).spelling written) ≤ 12 + rows_given restarts p.mix j + steps_given restarts j + sums parameters from count
+  pub params_bits : length ((params s).spelling written) ≤ 12 + rows_given restarts p.mix j + steps_given restarts p.mix j + sums parameters from count
   unfolding params part
   params_bits =
       let f : ℕ → List Bool = λ p. (group (bit p 0) (number_of 8)).spelling None ++ (groups s None p).spelling written in
@@ -197,7 +213,7 @@ module _ (j : ℕ) (p : Profile) (restarts : Bool) (s : State) (pasts : List Pas
 
   -- parameters and frames
   pub body_bits : length ((params s).spelling written) + length ((frames_of (after j p restarts s pasts frames h) (length frames)).spelling (codes_in (after j p restarts s pasts frames h).rows.items (sent_in j p restarts before frames) frames))
-      ≤ 12 + rows_given restarts p.mix j + steps_given restarts j + bypass_size p.mix j * length frames + count * (34 + 26 * length frames)
+      ≤ 12 + rows_given restarts p.mix j + steps_given restarts p.mix j + bypass_size p.mix j * length frames + count * (34 + 26 * length frames)
   body_bits =
       let f : ℕ → ℕ = λ c. sums (λ i. code_bits i c) 0 (length frames) in
       let both = sums_add parameters f from count in

@@ -95,7 +95,7 @@ restart_size true j = 121 + 6 * (last_channel j + 1)
 restart_size false j = 0
 
 abbrev head_size : Bool → Mix → ℕ → ℕ
-head_size restarts mix j = 14 + restart_size restarts j + rows_given restarts mix j + steps_given restarts j
+head_size restarts mix j = 14 + restart_size restarts j + rows_given restarts mix j + steps_given restarts mix j
 
 block_most : (place : Place) (force : Option State) (j : ℕ) (p : Profile) (o : Option Restart) (before : Force) (frames : List CodedFrame) (so_far : ℕ) (due : Bool) → IsSendable j p (is_some o) before.state frames
     → restarted_at place force o ≡ Some before.state

@@ -12,7 +12,7 @@ use Rattle.mlp_fold.specs.declared.profile.Mix.TheVariants.{Split, Fold, Bypass,
 use Rattle.mlp_fold.specs.declared.profile.Profile.{Profile}
 use Rattle.mlp_fold.specs.Profile.{has_channels, has_rate}
 use Rattle.mlp_fold.specs.Substreams.{substreams_of}
-use Rattle.mlp_encode.specs.Lawful.{rows_size, bypass_size, segment_most, segments_to, segments_most}
+use Rattle.mlp_encode.specs.Lawful.{rows_size, steps_size, bypass_size, segment_most, segments_to, segments_most}
 use Rattle.mlp_encode.proofs.SyncAllowed.{Passes}
 
 eight_slow : (rate channels : ℕ) → has_rate rate channels ≡ true → channels ≡ 8 → unit_of rate ≤ 80
@@ -41,12 +41,12 @@ count_of kind n h = by (n == 2) (n == 6) (n == 8) refl refl refl
 -- ---- a segment by its mix
 
 record AreFew (mix : Mix) (frames : ℕ) : Type 0 where
-  first : rows_size mix 0 + bypass_size mix 0 * frames ≤ 63
-  second : rows_size mix 1 + bypass_size mix 1 * frames ≤ 201 + 4 * frames
-  third : rows_size mix 2 + bypass_size mix 2 * frames ≤ 249 + 4 * frames
+  first : rows_size mix 0 + steps_size mix 0 + bypass_size mix 0 * frames ≤ 72
+  second : rows_size mix 1 + steps_size mix 1 + bypass_size mix 1 * frames ≤ 226 + 4 * frames
+  third : rows_size mix 2 + steps_size mix 2 + bypass_size mix 2 * frames ≤ 282 + 4 * frames
   -- .. of 40 frames
-  second_single : frames ≡ 40 → rows_size mix 1 + bypass_size mix 1 * frames ≤ 241
-  third_single : frames ≡ 40 → rows_size mix 2 + bypass_size mix 2 * frames ≤ 249
+  second_single : frames ≡ 40 → rows_size mix 1 + steps_size mix 1 + bypass_size mix 1 * frames ≤ 266
+  third_single : frames ≡ 40 → rows_size mix 2 + steps_size mix 2 + bypass_size mix 2 * frames ≤ 282
 
 are_few : (mix : Mix) (frames : ℕ) → AreFew mix frames
 are_few Split frames = record { first = omega arith; second = omega arith; third = omega arith; second_single = λ e. omega arith; third_single = λ e. omega arith }

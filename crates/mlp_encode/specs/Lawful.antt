@@ -113,6 +113,14 @@ rows_size Bypass zero = 1
 rows_size Bypass (suc j) = 81
 rows_size Side j = 22
 
+-- .. and of its steps, with their presence
+abbrev pub steps_size : Mix → ℕ → ℕ
+steps_size Split j = 1 + 4 * (last_channel j + 1)
+steps_size Fold j = 1 + 4 * (last_channel j + 1)
+steps_size Bypass zero = 1
+steps_size Bypass (suc j) = 1 + 4 * (last_channel (suc j) + 1)
+steps_size Side j = 1 + 4 * (last_channel j + 1)
+
 -- the bypassed bits of a frame
 abbrev pub bypass_size : Mix → ℕ → ℕ
 bypass_size Split j = 0
@@ -125,7 +133,7 @@ bypass_size Side j = 0
 -- channel the parameters of two blocks and the codes, and what stands behind the blocks
 abbrev pub segment_size : Mix → ℕ → ℕ → ℕ
 segment_size mix j frames =
-    217 + 10 * (last_channel j + 1) + rows_size mix j + bypass_size mix j * frames
+    216 + 6 * (last_channel j + 1) + rows_size mix j + steps_size mix j + bypass_size mix j * frames
     + (last_channel j - first_channel j + 1) * (68 + 26 * frames)
 
 -- a segment of substream j has no more bytes
