@@ -33,3 +33,6 @@ pub mod UnitAllowed
 pub mod UnitLengths
 pub mod SentStarts
 pub mod SentUnits
+pub mod FramesFilled
+pub mod UnitMade
+pub mod UnitSent

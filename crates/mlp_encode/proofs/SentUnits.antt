@@ -20,8 +20,8 @@ use Rattle.mlp_fold.specs.declared.coding.CodedFrame.{CodedFrame}
 use Rattle.mlp_fold.specs.Substreams.{substreams_of}
 use Rattle.mlp_encode.specs.Numbers.{has_sync}
 use Rattle.mlp_encode.specs.Blocks.{SentSegment, segment_sent}
-use Rattle.mlp_encode.specs.Lawful.{IsInForce, AreInForce, SendsSegment, IsEnd, IsSentSegment, place_in, segment_most, segments_to}
-use Rattle.mlp_encode.specs.Unit.{SentUnit, nothing_sent, before, segments_from, segments_bytes, joined, entry_at, entries_from, restart_in, IsSentUnit}
+use Rattle.mlp_encode.specs.Lawful.{IsInForce, AreInForce, SendsSegment, IsEnd, IsSentSegment, place_in, segment_most, segments_to, AreWords}
+use Rattle.mlp_encode.specs.Unit.{SentUnit, nothing_sent, before, segments_from, segments_bytes, joined, entry_at, entries_from, restart_in, IsSentUnit, AreWhole}
 use Rattle.mlp_encode.proofs.Renewed.{substreams_most}
 use Rattle.mlp_encode.proofs.SentLength.{written_is}
 use Rattle.mlp_encode.proofs.UnitLengths.{segments_more}
@@ -65,6 +65,8 @@ module _ (p : Profile) (n : ℕ) (checks : List ℕ) (frames : List CodedFrame) 
     pub bytes_are : joined (bytes_from 0 old_pasts) ≡ bytes ++ joined (bytes_from j pasts)
     pub entries_are : entries_from sync 0 (bytes_from 0 old_pasts) ≡ entries ++ entries_from sync (length bytes / 2) (bytes_from j pasts)
     pub words : length bytes % 2 ≡ 0
+    pub count_from : length (bytes_from 0 old_pasts) ≡ j + length (bytes_from j pasts)
+    pub words_from : AreWords (bytes_from j pasts) → AreWords (bytes_from 0 old_pasts)
     pub most : length bytes ≤ segments_to p j
     pub count : length entries ≡ j
     pub later : (k : ℕ) → j ≤ k → get_or now k None ≡ get_or old k None
@@ -80,6 +82,8 @@ module _ (p : Profile) (n : ℕ) (checks : List ℕ) (frames : List CodedFrame) 
     bytes_are = refl;
     entries_are = refl;
     words = refl;
+    count_from = omega arith;
+    words_from = λ w. w;
     most = omega arith;
     count = refl;
     later = λ k le. refl;
@@ -106,6 +110,15 @@ module _ (p : Profile) (n : ℕ) (checks : List ℕ) (frames : List CodedFrame) 
       pasts_are = sym (h.pasts_are ∙ ap (λ (u : SentUnit). u.pasts) none_from);
       entries_are = sym (h.entries_are ∙ ap (λ (bs : List (List ℕ)). entries ++ entries_from sync (length bytes / 2) bs) none_bytes ∙ append-nil entries);
       bytes_are = sym (h.bytes_are ∙ ap (λ (bs : List (List ℕ)). bytes ++ joined bs) none_bytes ∙ append-nil bytes);
+    }
+
+    pub all_whole : AreWhole p (bytes_from 0 old_pasts)
+    all_whole = record {
+      count = h.count_from ∙ ap (λ (bs : List (List ℕ)). j + length bs) none_bytes ∙ (let z : j + 0 ≡ j = omega arith in z) ∙ all;
+      words = h.words_from (subst (λ (bs : List (List ℕ)). AreWords bs) (sym none_bytes) tt);
+      most =
+          let body : joined (bytes_from 0 old_pasts) ≡ bytes = h.bytes_are ∙ ap (λ (bs : List (List ℕ)). bytes ++ joined bs) none_bytes ∙ append-nil bytes in
+          omega (arith, ap (λ (b : List ℕ). length b) body, h.most, ap (λ (m : ℕ). segments_to p m) all);
     }
 
     pub all_in_force : AreInForce p (n + 1) (take (substreams_of p.channels) now)
@@ -196,6 +209,9 @@ module _ (p : Profile) (n : ℕ) (checks : List ℕ) (frames : List CodedFrame) 
         even : length bytes' % 2 ≡ 0
         even = omega (arith, ap (λ (b : List Bool). length b) x.bits, length-append (bits_of bytes) text, length-bits_of bytes, length-bits_of bytes', whole, h.words)
 
+        word : length (bytes_of text) % 2 ≡ 0
+        word = omega (arith, sum, even, h.words)
+
         end_is : length bytes / 2 + length (bytes_of text) / 2 ≡ length bytes' / 2
         end_is = omega (arith, sum, even, h.words)
 
@@ -225,6 +241,8 @@ module _ (p : Profile) (n : ℕ) (checks : List ℕ) (frames : List CodedFrame) 
               ∙ sym (append_assoc entries (entry_at sync (length bytes' / 2) ∷ []) (entries_from sync (length bytes' / 2) later_bytes))
               ∙ ap (λ (es : List DirEntry). es ++ entries_from sync (length bytes' / 2) later_bytes) (sym x.entry);
           words = even;
+          count_from = h.count_from ∙ ap (λ (bs : List (List ℕ)). j + length bs) bytes_is ∙ (let z : j + suc (length later_bytes) ≡ j + 1 + length later_bytes = omega arith in z);
+          words_from = λ w. h.words_from (subst (λ (bs : List (List ℕ)). AreWords bs) (sym bytes_is) (word, w));
           most = omega (arith, h.most, x.more_most, segments_more p j);
           count = ap (λ (es : List DirEntry). length es) x.entry ∙ length-append entries (entry_at sync (length bytes' / 2) ∷ []) ∙ ap (λ (m : ℕ). m + 1) h.count;
           later = λ k le. get_or-set_other now j k after None (λ same. omega (arith, le, same)) ∙ h.later k (omega (arith, le));

@@ -7,3 +7,4 @@ pub mod Left
 pub mod Lawful
 pub mod Unit
 pub mod Sent
+pub mod Encoding

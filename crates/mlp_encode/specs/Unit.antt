@@ -27,7 +27,7 @@ use Rattle.mlp_encode.specs.Numbers.{has_sync, low_zeros}
 use Rattle.mlp_encode.specs.Sync.{sync_of, restart_of}
 use Rattle.mlp_encode.specs.Blocks.{SentSegment, segment_sent}
 use Rattle.mlp_encode.specs.Left.{Going, Left}
-use Rattle.mlp_encode.specs.Lawful.{place_in}
+use Rattle.mlp_encode.specs.Lawful.{AreWords, place_in, segments_most}
 
 -- ---- the frames
 
@@ -132,6 +132,12 @@ segments_in p n checks frames t force pasts =
 abbrev pub bytes_in : Profile → ℕ → List ℕ → List CodedFrame → Option ℕ → List (Option State) → List Past → List (List ℕ)
 bytes_in p n checks frames t force pasts =
     segments_bytes (place_in p (has_sync n)) (take (substreams_of p.channels) force) (segments_in p n checks frames t force pasts).segments
+
+-- of each segment of a unit the bytes: whole words, and together no more than segments may have
+pub record AreWhole (p : Profile) (segments : List (List ℕ)) : Type 0 where
+  pub count : length segments ≡ substreams_of p.channels
+  pub words : AreWords segments
+  pub most : length (joined segments) ≤ segments_most p
 
 -- what was sent of a unit in the substreams, where this was in force and these are the pasts before it: what is in force
 -- behind it, the pasts, the entries and the bytes

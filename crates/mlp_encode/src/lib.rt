@@ -4,12 +4,15 @@
 
 mod blocks;
 mod coding;
+mod encoder;
 pub mod laws;
 mod numbers;
+mod progress;
 mod segments;
 mod sync;
 mod unit;
 
+pub use encoder::{Encoder, OpenRefusal};
 pub use segments::send_segment;
 pub use sync::sync_of;
 pub use unit::{

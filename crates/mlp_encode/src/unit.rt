@@ -18,7 +18,7 @@ ghost use Rattle.mlp_encode.specs.Lawful.{SendsSegment, IsSentSegment, IsEnd, pl
 ghost use Rattle.mlp_fold.specs.Profile.{checked};
 ghost use Rattle.mlp_encode.specs.Numbers.{has_sync};
 ghost use Rattle.mlp_encode.specs.Lawful.{AreCodedBy, AreInForce};
-ghost use Rattle.mlp_encode.specs.Unit.{IsSentUnit, end_word, terminator_of, check_in, restart_in, entry_at, check_with};
+ghost use Rattle.mlp_encode.specs.Unit.{IsSentUnit, AreWhole, bytes_in, end_word, terminator_of, check_in, restart_in, entry_at, check_with};
 
 use crate::numbers::has_sync;
 use crate::segments::send_segment;
@@ -202,6 +202,8 @@ pub fn send_substreams(
     requires same { writing.old ≡ sending.old }
     ensures sent { IsSentUnit profile.now unit checks.now frames.now terminator sending.old pasts.old
         sending.new pasts.new out.new.entries.items out.new.bytes.items }
+    ensures whole { AreWhole profile.now
+        (bytes_in profile.now unit checks.now frames.now terminator sending.old pasts.old) }
     ensures same { writing.new ≡ sending.new }
     ensures next { AreInForce profile.now (unit + 1) (take (substreams_of profile.now.channels) sending.new) }
 {
