@@ -20,7 +20,7 @@ use Rattle.mlp_contents.specs.Units.{is_checked}
 
 -- ---- ends that don't fall
 
-rises : (last : ℕ) (es : List DirEntry) (j : ℕ) → first_bad_end 0 last 0 es ≡ None → j < length es → (end_before es j ≤ end_at es j) × (end_at es j ≤ last)
+pub rises : (last : ℕ) (es : List DirEntry) (j : ℕ) → first_bad_end 0 last 0 es ≡ None → j < length es → (end_before es j ≤ end_at es j) × (end_at es j ≤ last)
 rises last es zero none lt = ends_rise 0 last 0 es zero none lt
 rises last es (suc j) none lt = ends_rise 0 last 0 es (suc j) none lt
 
@@ -58,7 +58,7 @@ middle_less b n m bytes within =
 abbrev pub bits_at : AccessUnit → ℕ → List Bool → List Bool
 bits_at o j text = take (16 * (end_at o.entries j - end_before o.entries j)) (drop (8 * (body_place o + 2 * end_before o.entries j)) text)
 
-bits_at_is : (first : Option MajorSync) (o : AccessUnit) (j : ℕ) → (access_unit first).Fits o → first_bad_end 0 (length o.body / 2) 0 o.entries ≡ None → j < length o.entries
+pub bits_at_is : (first : Option MajorSync) (o : AccessUnit) (j : ℕ) → (access_unit first).Fits o → first_bad_end 0 (length o.body / 2) 0 o.entries ≡ None → j < length o.entries
     → bits_at o j ((access_unit first).spelling o) ≡ bits_of (take (2 * (end_at o.entries j - end_before o.entries j)) (drop (2 * end_before o.entries j) o.body))
 bits_at_is first o j fits ends lt =
     let r = rises (length o.body / 2) o.entries j ends lt in

@@ -127,7 +127,7 @@ some_sync : (o : Option MajorSync) → IsTrue (is_some o) → (m : MajorSync) ×
 some_sync None e = absurd (let no : false ≡ true = e in cc)
 some_sync (Some m) e = (m, refl)
 
-stream_of : (k : ℕ) (all : List Bool) (u : Unit_of) (us : List Unit_of) → k < min 3 (substreams_of u.outer.major) → Begins (whole k) (start k) all (u ∷ us) [] → Stream (whole k) (start k) k all (u ∷ us)
+pub stream_of : (k : ℕ) (all : List Bool) (u : Unit_of) (us : List Unit_of) → k < min 3 (substreams_of u.outer.major) → Begins (whole k) (start k) all (u ∷ us) [] → Stream (whole k) (start k) k all (u ∷ us)
 unfolding Begins
 stream_of k all u us told b = record {
   units = record { begins = b; some = more_left (whole k) (whole_is k) (start k) all u b.0 };

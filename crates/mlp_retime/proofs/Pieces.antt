@@ -32,19 +32,19 @@ use Rattle.mlp_retime.proofs.TopStreams.{stream_top}
 
 -- ---- placing one more
 
-ok_times : List ℕ × LeftFifo → Result (List ℕ × LeftFifo) NoRoom
+pub ok_times : List ℕ × LeftFifo → Result (List ℕ × LeftFifo) NoRoom
 ok_times x = Ok x
 
-times_is : (x y : List ℕ × LeftFifo) → ok_times x ≡ ok_times y → x ≡ y
+pub times_is : (x y : List ℕ × LeftFifo) → ok_times x ≡ ok_times y → x ≡ y
 unfolding ok_times
 times_is x y e = cc
 
-record Timed (t : ℕ) (r : Result (List ℕ × LeftFifo) NoRoom) (times : List ℕ) (l : LeftFifo) : Type 0 where
-  later : List ℕ
-  placed_is : r ≡ Ok (later, l)
-  times_are : times ≡ t ∷ later
+pub record Timed (t : ℕ) (r : Result (List ℕ × LeftFifo) NoRoom) (times : List ℕ) (l : LeftFifo) : Type 0 where
+  pub later : List ℕ
+  pub placed_is : r ≡ Ok (later, l)
+  pub times_are : times ≡ t ∷ later
 
-timed : (t : ℕ) (r : Result (List ℕ × LeftFifo) NoRoom) (times : List ℕ) (l : LeftFifo) → with_time t r ≡ Ok (times, l) → Timed t r times l
+pub timed : (t : ℕ) (r : Result (List ℕ × LeftFifo) NoRoom) (times : List ℕ) (l : LeftFifo) → with_time t r ≡ Ok (times, l) → Timed t r times l
 unfolding ok_times
 timed t (Ok r) times l e =
     let same = times_is (t ∷ r.0, r.1) (times, l) e in
@@ -55,32 +55,32 @@ timed t (Ok r) times l e =
     }
 timed t (Err b) times l e = absurd cc
 
-abbrev placed_on : Result (ℕ × LeftFifo) NoRoom → List ℕ → Result (List ℕ × LeftFifo) NoRoom
+abbrev pub placed_on : Result (ℕ × LeftFifo) NoRoom → List ℕ → Result (List ℕ × LeftFifo) NoRoom
 placed_on x bs = elim x [ Ok r ↦ with_time r.0 (placed_all bs r.1) | Err e ↦ Err e ]
 
-record First (x : Result (ℕ × LeftFifo) NoRoom) (bs times : List ℕ) (l : LeftFifo) : Type 0 where
-  r : ℕ × LeftFifo
-  is : x ≡ Ok r
-  on : with_time r.0 (placed_all bs r.1) ≡ Ok (times, l)
+pub record First (x : Result (ℕ × LeftFifo) NoRoom) (bs times : List ℕ) (l : LeftFifo) : Type 0 where
+  pub r : ℕ × LeftFifo
+  pub is : x ≡ Ok r
+  pub on : with_time r.0 (placed_all bs r.1) ≡ Ok (times, l)
 
-first_placed : (x : Result (ℕ × LeftFifo) NoRoom) (bs times : List ℕ) (l : LeftFifo) → placed_on x bs ≡ Ok (times, l) → First x bs times l
+pub first_placed : (x : Result (ℕ × LeftFifo) NoRoom) (bs times : List ℕ) (l : LeftFifo) → placed_on x bs ≡ Ok (times, l) → First x bs times l
 first_placed (Ok r) bs times l e = record { r = r; is = refl; on = e }
 first_placed (Err b) bs times l e = absurd cc
 
 -- ---- the first major sync stays
 
-sync_on : (before : List Unit_of) (u : Unit_of) → (left_after top (start 0) (before ++ u ∷ [])).sync ≡ sync_with before u
+pub sync_on : (before : List Unit_of) (u : Unit_of) → (left_after top (start 0) (before ++ u ∷ [])).sync ≡ sync_with before u
 unfolding after
 sync_on before u =
     let left = left_after top (start 0) before in
     ap (λ l. l.sync) (left_on before u) ∙ ap (λ (s : Option MajorSync). in_force s u.outer.major) (begun_sync _ left left.sync refl)
 
-none_given : (sync : Option MajorSync) (n : ℕ) (times : List ℕ) → units_bytes (retimed_from sync (pace_in sync) n times []) ≡ []
+pub none_given : (sync : Option MajorSync) (n : ℕ) (times : List ℕ) → units_bytes (retimed_from sync (pace_in sync) n times []) ≡ []
 none_given sync n [] = refl
 none_given sync n (t ∷ times) = refl
 
 module _ (sync : Option MajorSync) (there : is_none sync ≡ false) where
-  given_from : (before us : List Unit_of) (times : List ℕ) (fifo l : LeftFifo) → ((u : Unit_of) (rest : List Unit_of) → us ≡ u ∷ rest → sync_with before u ≡ sync)
+  pub given_from : (before us : List Unit_of) (times : List ℕ) (fifo l : LeftFifo) → ((u : Unit_of) (rest : List Unit_of) → us ≡ u ∷ rest → sync_with before u ≡ sync)
       → fifo ≡ fifo_behind (fifo_for sync) (map length_of before) → placed_all (map length_of us) fifo ≡ Ok (times, l)
       → Gives retiming before us (units_bytes (retimed_from sync (pace_in sync) (length before) times us))
   unfolding Gives
@@ -115,11 +115,11 @@ same_list [] (y ∷ ys) n at = absurd (omega arith)
 same_list (x ∷ xs) [] n at = absurd (omega arith)
 same_list (x ∷ xs) (y ∷ ys) n at = λ i. at 0 (omega arith) i ∷ same_list xs ys (omega arith) (λ j lt. at (suc j) (omega arith)) i
 
-record AllPlaced (kind : Kind) (rate : ℕ) (lengths times : List ℕ) : Type 0 where
-  left : LeftFifo
-  is : placed_all lengths (emptied kind rate) ≡ Ok (times, left)
+pub record AllPlaced (kind : Kind) (rate : ℕ) (lengths times : List ℕ) : Type 0 where
+  pub left : LeftFifo
+  pub is : placed_all lengths (emptied kind rate) ≡ Ok (times, left)
 
-placed_at : (kind : Kind) (rate : ℕ) (lengths times : List ℕ) → BeginAt kind rate lengths times → AllPlaced kind rate lengths times
+pub placed_at : (kind : Kind) (rate : ℕ) (lengths times : List ℕ) → BeginAt kind rate lengths times → AllPlaced kind rate lengths times
 unfolding ok_times
 placed_at kind rate lengths times b = by_case (placed_all lengths (emptied kind rate)) refl (all_have_room kind rate lengths (slice_index times) b.earliest.is_schedule)
   where
@@ -139,7 +139,7 @@ first_there k all (v ∷ vs) b u rest e =
     let f : Found (access_unit None) all 0 v.outer = record { fits = b.0.outer.fits; meets = b.0.outer.meets.1; stands = b.0.outer.stands } in
     ap (λ (xs : List Unit_of). is_none (first_sync xs)) (sym e) ∙ some_none v.outer.major (unit_synced None all v.outer tt f)
 
-gives_all : (us vs : List Unit_of) → ((u : Unit_of) (rest : List Unit_of) → us ≡ u ∷ rest → is_none u.outer.major ≡ false) → IsRetimed us vs → Gives retiming [] us (units_bytes vs)
+pub gives_all : (us vs : List Unit_of) → ((u : Unit_of) (rest : List Unit_of) → us ≡ u ∷ rest → is_none u.outer.major ≡ false) → IsRetimed us vs → Gives retiming [] us (units_bytes vs)
 unfolding Gives
 gives_all [] vs some r = ap units_bytes r.units_are ∙ none_given None 0 r.times
 gives_all (u ∷ us) vs some r =

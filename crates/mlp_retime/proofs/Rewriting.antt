@@ -25,7 +25,7 @@ use Rattle.mlp_retime.specs.SessionLaws.{top_is, top_bytes}
 use Rattle.mlp_retime.proofs.Taking.{sync_taken}
 use Rattle.mlp_retime.proofs.Texts.{all_texts}
 
-place_forced : (sync major : Option MajorSync) → place_by (in_force sync major) major ≡ place_by sync major
+pub place_forced : (sync major : Option MajorSync) → place_by (in_force sync major) major ≡ place_by sync major
 place_forced None None = refl
 place_forced None (Some m) = refl
 place_forced (Some f) major = refl

@@ -16,12 +16,12 @@ use Rattle.mlp_retime.proofs.TopLaws.{contents_later}
 after_by : Option MajorSync → Left → Unit_of → Left
 after_by sync left u = let k = highest (in_force sync u.outer.major) in after k (if is_none sync then start k else left) u
 
-after_later : (left : Left) (u : Unit_of) (sync : Option MajorSync) → left.sync ≡ sync → is_none sync ≡ false → top.after left u ≡ after (highest sync) left u
+pub after_later : (left : Left) (u : Unit_of) (sync : Option MajorSync) → left.sync ≡ sync → is_none sync ≡ false → top.after left u ≡ after (highest sync) left u
 unfolding after_by
 after_later left u None e synced = absurd cc
 after_later left u (Some f) e synced = ap (λ (s : Option MajorSync). after_by s left u) e
 
-sync_after : (k : ℕ) (left : Left) (u : Unit_of) → is_none left.sync ≡ false → (after k left u).sync ≡ left.sync
+pub sync_after : (k : ℕ) (left : Left) (u : Unit_of) → is_none left.sync ≡ false → (after k left u).sync ≡ left.sync
 unfolding after
 sync_after k left u synced = in_force_kept left.sync u.outer.major synced
 
@@ -32,7 +32,7 @@ module _ (k : ℕ) where
       ap (λ (j : ℕ). (whole j).contents left u.outer) e ∙ sym (contents_later left u.outer left.sync refl synced) in
       record { outer = next.outer; contents = subst (λ (c : Contents (List Segment)). FoundIn c (spelling_of top left u) u.contents) same next.contents }
 
-  begins_later : (left : Left) (all : List Bool) (us : List Unit_of) (rest : List Bool) → is_none left.sync ≡ false → k ≡ highest left.sync → Begins (whole k) left all us rest → Begins top left all us rest
+  pub begins_later : (left : Left) (all : List Bool) (us : List Unit_of) (rest : List Bool) → is_none left.sync ≡ false → k ≡ highest left.sync → Begins (whole k) left all us rest → Begins top left all us rest
   unfolding Begins
   begins_later left all [] rest synced e b = b
   begins_later left all (u ∷ us) rest synced e b =
@@ -46,7 +46,7 @@ module _ (k : ℕ) where
 
   -- the first unit tells it
 
-  some_sync : (major : Option MajorSync) → min 3 (substreams_of major) ≡ k + 1 → (highest major ≡ k) × (is_none major ≡ false)
+  pub some_sync : (major : Option MajorSync) → min 3 (substreams_of major) ≡ k + 1 → (highest major ≡ k) × (is_none major ≡ false)
   some_sync None e = absurd (omega (arith, e))
   some_sync (Some m) e = (omega (arith, e), refl)
 
@@ -61,7 +61,7 @@ module _ (k : ℕ) where
   unfolding read_ok
   one_read x y e = cc
 
-  first_told : (all : List Bool) (u : Unit_of) → Has (whole k) (start k) all (k + 1) → IsNext (whole k) (start k) all u → (highest u.outer.major ≡ k) × (is_none u.outer.major ≡ false)
+  pub first_told : (all : List Bool) (u : Unit_of) → Has (whole k) (start k) all (k + 1) → IsNext (whole k) (start k) all u → (highest u.outer.major ≡ k) × (is_none u.outer.major ≡ false)
   unfolding read_ok
   first_told all u (o, found, told) next =
       let is = (whole_is k).outer_is (start k) in

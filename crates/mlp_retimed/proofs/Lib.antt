@@ -1,0 +1,10 @@
+pub mod Timeless
+pub mod Segments
+pub mod Bodies
+pub mod Units
+pub mod Law
+pub mod TopBack
+pub mod Restarts
+pub mod Fitting
+pub mod Stopping
+pub mod KeptTiming

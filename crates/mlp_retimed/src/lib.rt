@@ -1,0 +1,4 @@
+//! What retiming keeps of a stream, and where it stops.
+#![tactic(auto)]
+
+pub mod laws;
