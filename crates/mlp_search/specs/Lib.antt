@@ -4,4 +4,5 @@ pub mod Given
 pub mod Cost
 pub mod Trial
 pub mod Lines
+pub mod Tally
 pub mod Least

@@ -19,7 +19,7 @@ fn folded(x: i32) -> u32
 
 /// A value that is moved by an offset and folded.
 #[inline]
-fn moved(value: &i32, offset: i16) -> u32
+pub(crate) fn moved(value: &i32, offset: i16) -> u32
     requires { folded (value.now -ℤ offset) < 2 ^ 30 }
     ensures { result ≡ folded (value.now -ℤ offset) }
 {
@@ -63,8 +63,8 @@ pub(crate) fn fold_sum(values: &[i32], offset: i16) -> u64
 
 /// How many bits a symbol takes, of a folded value over 2^b.
 #[inline]
-fn symbol_bits<const BOOK: u8>(p: u32) -> u32
-    requires { p < 18 }
+pub(crate) fn symbol_bits<const BOOK: u8>(p: u32) -> u32
+    requires { p < 32 }
     ensures value { result ≡ symbol_bits BOOK p }
     ensures few { result ≤ 19 }
 {

@@ -1,18 +1,19 @@
 //! The choices of the filters on trial, one after the other.
 
-ghost use Rattle.std.specs.Prelude.{◌≡◌, ℕ, List, ◌≤◌, ◌<◌, ◌-◌, ◌*◌, ◌/◌, ◌^◌, ◌+◌, length, map, All, FitsSigned, true, Some};
+ghost use Rattle.std.specs.Prelude.{◌≡◌, ℕ, List, ◌≤◌, ◌<◌, ◌-◌, ◌*◌, ◌/◌, ◌^◌, ◌+◌, length, map, All, FitsSigned, true, Some, IfSome};
 ghost use Rattle.std.specs.Int.{w32};
 ghost use Rattle.std.specs.List.{flat_map, range_with_len};
 ghost use Rattle.mlp_residual.specs.Coding.{symbols_of};
 ghost use Rattle.mlp_search.specs.Cost.{in_range, is_offset, most_low, cost_over};
 ghost use Rattle.mlp_search.specs.Folded.{stepped, all_folded, top_of, all_symbol_bits, raised_sum};
 ghost use Rattle.mlp_search.specs.Least.{is_better, better, least_from, choice_of, with_offsets, with_lows, with_books};
+ghost use Rattle.mlp_search.specs.Tally.{IsTally, AreTallies};
 ghost use Rattle.mlp_search.specs.Trial.{Writes, IsTrial, IsSide, IsSmall, AreSides};
 
 use crate::choice::Choice;
 use crate::costs::{most_low, parameter_sum};
-use crate::folds::symbol_sum;
 use crate::sides::{Side, Sides, sides_of};
+use crate::tally::{Tallies, Tally, symbols, tally_side};
 use crate::trial::Trial;
 use mlp_params::ChannelState;
 
@@ -89,6 +90,7 @@ fn cost_with_codes(
     state: &ChannelState,
     step: u8,
     trial: &Trial,
+    tally: &Option<Tally>,
     values: &[i32],
     choice: &Choice,
 ) -> u64
@@ -101,13 +103,14 @@ fn cost_with_codes(
     requires offset { is_offset step (map (stepped step) values.now) choice.now.offset ≡ true }
     requires codes { let c = choice.now in
         top_of (all_folded c.offset values.now) / 2 ^ (c.low - step) < symbols_of c.book }
+    requires tally { IfSome tally.now (λ t. IsTally choice.now.offset values.now t) }
     ensures { Some result
         ≡ cost_over state.now step true trial.now.pair (map (stepped step) values.now) choice.now }
 {
     let b = choice.low - step;
     let low_bits = values.len() as u64 * u64::from(b);
-    let symbols = symbol_sum(choice.book, values, choice.offset, b);
-    parameter_sum(state, trial, choice) + (low_bits + symbols)
+    let symbol_bits = symbols(tally, choice.book, values, choice.offset, b);
+    parameter_sum(state, trial, choice) + (low_bits + symbol_bits)
 }
 
 /// The best so far, with one choice more of the filters on trial.
@@ -116,6 +119,7 @@ fn tried(
     step: u8,
     trial: &Trial,
     side: &Side,
+    tally: &Option<Tally>,
     values: &[i32],
     best: Option<Choice>,
     book: u8,
@@ -127,6 +131,7 @@ fn tried(
     requires words { All (FitsSigned w32) (map (stepped step) values.now) }
     requires side { IsSide state.now step trial.now values.now side.now }
     requires small { IsSmall side.now }
+    requires tally { IfSome tally.now (λ t. IsTally side.now.offset values.now t) }
     requires book { book ≤ 3 }
     requires from { step ≤ low }
     requires most { low ≤ most_low book }
@@ -142,7 +147,7 @@ fn tried(
         return best;
     }
     let choice = choice_of(trial.number, book, low, side.offset);
-    let bits = cost_with_codes(state, step, trial, values, &choice);
+    let bits = cost_with_codes(state, step, trial, tally, values, &choice);
     better(best, choice, Some(bits))
 }
 
@@ -152,6 +157,7 @@ fn with_offsets(
     step: u8,
     trial: &Trial,
     sides: &Sides,
+    tallies: &Tallies,
     values: &[i32],
     best: Option<Choice>,
     book: u8,
@@ -162,6 +168,7 @@ fn with_offsets(
     requires few { length values.now ≤ 160 }
     requires words { All (FitsSigned w32) (map (stepped step) values.now) }
     requires sides { AreSides state.now step trial.now values.now sides.now }
+    requires tallies { AreTallies values.now sides.now tallies.now }
     requires book { book ≤ 3 }
     requires from { step ≤ low }
     requires most { low ≤ most_low book }
@@ -169,8 +176,28 @@ fn with_offsets(
         ≡ least_from (cost_over state.now step true t.pair (map (stepped step) values.now)) best
         (with_offsets t.number t.middle book low) }
 {
-    let first = tried(state, step, trial, &sides.zero, values, best, book, low);
-    tried(state, step, trial, &sides.middle, values, first, book, low)
+    let first = tried(
+        state,
+        step,
+        trial,
+        &sides.zero,
+        &tallies.zero,
+        values,
+        best,
+        book,
+        low,
+    );
+    tried(
+        state,
+        step,
+        trial,
+        &sides.middle,
+        &tallies.middle,
+        values,
+        first,
+        book,
+        low,
+    )
 }
 
 /// Fewer low bits than these leave some value without a code.
@@ -197,6 +224,7 @@ fn with_lows(
     step: u8,
     trial: &Trial,
     sides: &Sides,
+    tallies: &Tallies,
     values: &[i32],
     mut best: Option<Choice>,
     book: u8,
@@ -206,6 +234,7 @@ fn with_lows(
     requires few { length values.now ≤ 160 }
     requires words { All (FitsSigned w32) (map (stepped step) values.now) }
     requires sides { AreSides state.now step trial.now values.now sides.now }
+    requires tallies { AreTallies values.now sides.now tallies.now }
     requires book { book ≤ 3 }
     ensures { let t = trial.now in result
         ≡ least_from (cost_over state.now step true t.pair (map (stepped step) values.now)) best
@@ -216,7 +245,7 @@ fn with_lows(
         if !is_better(base + values.len() as u64 * u64::from(low - step), best) {
             return best;
         }
-        best = with_offsets(state, step, trial, sides, values, best, book, low);
+        best = with_offsets(state, step, trial, sides, tallies, values, best, book, low);
     }
     best
 }
@@ -242,8 +271,12 @@ fn with_codebooks(
     if !is_better(sides.zero.least.min(sides.middle.least), best) {
         return best;
     }
+    let tallies = Tallies {
+        zero: tally_side(values, &sides.zero, is_better(sides.zero.least, best)),
+        middle: tally_side(values, &sides.middle, is_better(sides.middle.least, best)),
+    };
     for book in 1..4 {
-        best = with_lows(state, step, trial, sides, values, best, book);
+        best = with_lows(state, step, trial, sides, &tallies, values, best, book);
     }
     best
 }
@@ -265,6 +298,10 @@ pub(crate) fn with_books(
         (with_books t.number t.middle) }
 {
     let sides = sides_of(state, step, trial, values);
-    let uncoded = with_lows(state, step, trial, &sides, values, best, 0);
+    let none = Tallies {
+        zero: None,
+        middle: None,
+    };
+    let uncoded = with_lows(state, step, trial, &sides, &none, values, best, 0);
     with_codebooks(state, step, trial, &sides, values, uncoded)
 }
