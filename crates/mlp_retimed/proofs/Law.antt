@@ -22,14 +22,15 @@ use Rattle.mlp_extracted.proofs.ExLaw.{told}
 use Rattle.mlp_retime.specs.Retimed.{length_of, retimed_unit, retimed_from, pace_in, IsRetimed}
 use Rattle.mlp_retime.specs.Laws.{IsHighest}
 use Rattle.mlp_retimed.specs.Plays.{PlaysAs}
+use Rattle.mlp_retimed.proofs.Times.{AllFit}
 use Rattle.mlp_retimed.proofs.Units.{Begun, AllRetimed, all_retimed}
 
 -- ---- the first unit
 
-pub record Told (k : ℕ) (us : List Unit_of) : Type 0 where
-  pub there : is_none (first_sync us) ≡ false
-  pub few : k < 3
-  pub told : k < substreams_of (first_sync us)
+record Told (k : ℕ) (us : List Unit_of) : Type 0 where
+  there : is_none (first_sync us) ≡ false
+  few : k < 3
+  told : k < substreams_of (first_sync us)
 
 none_tells : (k : ℕ) (o : Option MajorSync) → k < substreams_of o → is_none o ≡ false
 none_tells k None lt = absurd (omega (arith, lt))
@@ -40,10 +41,10 @@ unfolding Begins
 told_by k all [] some b few tells = absurd (some b)
 told_by k all (u ∷ us) some b few tells = record { there = none_tells k u.outer.major tells; few = few; told = tells }
 
-pub told_first : (k : ℕ) (all : List Bool) (us : List Unit_of) → Stream (whole k) (start k) k all us → Told k us
+told_first : (k : ℕ) (all : List Bool) (us : List Unit_of) → Stream (whole k) (start k) k all us → Told k us
 told_first k all us s = let t = told k all us s in told_by k all us s.units.some s.units.begins t.0 t.1
 
-pub begun_first : (us : List Unit_of) → Begun (first_sync us) None us
+begun_first : (us : List Unit_of) → Begun (first_sync us) None us
 begun_first [] = tt
 begun_first (u ∷ us) = refl
 
@@ -83,7 +84,7 @@ module _ (j k : ℕ) (bytes : List ℕ) (us vs ws : List Unit_of) (le : j ≤ k)
   count : length r.times ≡ length us
   count = r.begin.as_many ∙ length-map us length_of
 
-  kept : AllRetimed j (start j) (start j) (map (lowered j) us) (map (lowered j) these)
+  kept : AllRetimed j (start j) (start j) (pace_in sync) 0 r.times us these
   kept =
       all_retimed j k le sync first.there first.told (pace_in sync) 0 r.times us count (start k) (start j) (start j) refl refl tt (begun_first us) all all h.stream.units.begins
       (subst (λ (xs : List Unit_of). Begins (whole j) (start j) all xs []) lower s.units.begins)
@@ -106,3 +107,6 @@ module _ (j k : ℕ) (bytes : List ℕ) (us vs ws : List Unit_of) (le : j ≤ k)
 
   pub plays_retimed : PlaysAs j (units_bytes vs) (map (lowered j) vs) ws
   plays_retimed = subst (λ (xs : List Unit_of). PlaysAs j (units_bytes xs) (map (lowered j) xs) ws) (sym r.units_are) plays_these
+
+  pub fit_retimed : AllFit (pace_in sync) 0 r.times us these
+  fit_retimed = kept.fit

@@ -1,10 +1,11 @@
 pub mod Timeless
 pub mod Segments
 pub mod Bodies
+pub mod Restarts
+pub mod Times
 pub mod Units
 pub mod Law
 pub mod TopBack
-pub mod Restarts
 pub mod Fitting
 pub mod Stopping
 pub mod KeptTiming

@@ -68,6 +68,10 @@ declined sync output u (Err b) r e = record { e = b; is = refl; refusal = sym (r
 
 -- ---- what units give
 
+-- the first one is placed, and then the others
+placed_first : (fifo behind : LeftFifo) (b : ℕ) (bs : List ℕ) (t : ℕ) (ts : List ℕ) (l : LeftFifo) → placed fifo b ≡ Ok (t, behind) → placed_all bs behind ≡ Ok (ts, l) → placed_all (b ∷ bs) fifo ≡ Ok (t ∷ ts, l)
+placed_first fifo behind b bs t ts l e f = ap (λ (x : Result (ℕ × LeftFifo) NoRoom). placed_on x bs) e ∙ ap (with_time t) f
+
 record GivenBy (sync : Option MajorSync) (n : ℕ) (us : List Unit_of) (fifo : LeftFifo) (output : List ℕ) : Type 0 where
   times : List ℕ
   left : LeftFifo
@@ -102,8 +106,8 @@ module _ (sync : Option MajorSync) (there : is_none sync ≡ false) where
       record {
         times = c.r.0 ∷ later.times;
         left = later.left;
-        placed_is = ap (λ (x : Result (ℕ × LeftFifo) NoRoom). placed_on x (map length_of us)) c.is ∙ ap (with_time c.r.0) later.placed_is;
-        output_is = joined ∙ (λ i. c.bytes i ++ later.output_is i) ∙ ap (λ (m : ℕ). unit_bytes (retimed sync (c.r.0 % 65536) (out_of (pace_in sync) n % 65536) u) ++ units_bytes (retimed_from sync (pace_in sync) m later.times us)) long;
+        placed_is = placed_first fifo c.r.1 (length_of u) (map length_of us) c.r.0 later.times later.left c.is later.placed_is;
+        output_is = joined ∙ (λ i. c.bytes i ++ (later.output_is ∙ ap (λ (m : ℕ). units_bytes (retimed_from sync (pace_in sync) m later.times us)) long) i);
       }
 
 -- ---- a unit more

@@ -1,8 +1,9 @@
 -- Units that are retimed, one after the other: for each presentation the same is heard.
-use Rattle.std.proofs.Common.{ℕ, zero, suc, ◌+◌, ◌%◌, ◌<◌, ◌≤◌, Bool, true, false, List, [], ◌∷◌, ◌++◌, length, take, drop, map, Option, Some, None, is_none}
+use Rattle.std.proofs.Common.{ℕ, zero, suc, ◌+◌, ◌*◌, ◌/◌, ◌%◌, ◌<◌, ◌≤◌, Bool, true, false, List, [], ◌∷◌, ◌++◌, length, take, drop, map, Option, Some, None, is_none}
 use Rattle.std.proofs.Common.{◌≡◌, not, IsTrue, refl, sym, ap, subst, ◌∙◌, arith, append_assoc}
 use Rattle.std.specs.Prelude.{is_some, option_map, if◌then◌else◌}
 use Rattle.std.proofs.lemmas.List.{length-append, take_at, drop_at, take-append-drop}
+use Rattle.std.proofs.lemmas.List.Elements.{All-nil, All-same}
 use Rattle.mlp_syntax.specs.declared.major.MajorSync.{MajorSync}
 use Rattle.mlp_syntax.specs.declared.segment.Segment.{Segment}
 use Rattle.mlp_syntax.specs.declared.segment.BlockHead.{BlockHead}
@@ -12,7 +13,7 @@ use Rattle.mlp_layout.specs.Contents.{FoundIn, segments}
 use Rattle.mlp_layout.specs.Streams.{IsNext, rest_of, Begins}
 use Rattle.mlp_unit.specs.AccessUnit.{AccessUnit, access_unit, in_force, substreams_of}
 use Rattle.mlp_unit.specs.Laws.{RewrittenMeets}
-use Rattle.mlp_unit.specs.Written.{FirstUsable, unit_text, written_unit}
+use Rattle.mlp_unit.specs.Written.{FirstUsable, unit_size, unit_text, written_unit}
 use Rattle.mlp_unit.proofs.UnitRules.{fits_text}
 use Rattle.mlp_unit.proofs.Reread.{parts_of}
 use Rattle.mlp_substream.specs.declared.known.Place.{Place}
@@ -30,9 +31,12 @@ use Rattle.mlp_extracted.proofs.Portions.{bits_at}
 use Rattle.mlp_retime.specs.Retimed.{own_text, stamped_body, retimed_unit, retimed_from}
 use Rattle.mlp_retime.proofs.Decoders.{in_force_kept}
 use Rattle.mlp_retime.proofs.Rewriting.{place_forced}
+use Rattle.mlp_retimed.specs.Fits.{restart_timings}
+use Rattle.mlp_retimed.proofs.Restarts.{Is, all_stamped, all_none}
+use Rattle.mlp_retimed.proofs.Times.{FitsAt, AllFit, input_at, output_at}
 use Rattle.mlp_retimed.proofs.Timeless.{bare_left, coded_at_bare, LikeUnit, like_unit}
 use Rattle.mlp_retimed.proofs.Segments.{plain_there, stamped_there}
-use Rattle.mlp_retimed.proofs.Bodies.{own_meets, own_stays, stamped_meets, stamped_stand}
+use Rattle.mlp_retimed.proofs.Bodies.{own_meets, own_stays, stamped_length, stamped_meets, stamped_stand}
 
 -- ---- a unit
 
@@ -103,9 +107,10 @@ take_stamped t (suc n) [] = refl
 take_stamped t (suc n) (s ∷ ss) = ap (λ (xs : List Segment). stamped t s ∷ xs) (take_stamped t n ss)
 
 -- a unit retimed for the presentations up to k, as j reads it
-pub record Retimes (j : ℕ) (l m : Left) (u : Unit_of) (w : Unit_of) (more : List Bool) : Type 0 where
+pub record Retimes (j : ℕ) (l m : Left) (output : ℕ) (u w : Unit_of) (more : List Bool) : Type 0 where
   pub stands : Stands j m more (lowered j w)
   pub like : LikeUnit j l m (lowered j u) (lowered j w)
+  pub fits : FitsAt output u w
 
 module _ (j k : ℕ) (le : j ≤ k) (L l m : Left) (same : L.sync ≡ l.sync) (e : bare_left l ≡ bare_left m) (all others : List Bool) (u : Unit_of)
     (high : IsNext (whole k) L all u) (low : IsNext (whole j) l others (lowered j u)) (usable : FirstUsable l.sync) (told : k < substreams_of (in_force l.sync u.outer.major))
@@ -124,6 +129,9 @@ module _ (j k : ℕ) (le : j ≤ k) (L l m : Left) (same : L.sync ≡ l.sync) (e
   deep : k < length o.entries
   deep = omega (arith, told, (parts_of l.sync o (λ none. usable) allowed.fits allowed.meets).asked.count)
 
+  same_size : (body : List ℕ) → length body ≡ length o.body → 2 * (unit_size o.major o.entries body / 2) ≡ 2 * o.head.words
+  same_size body e = omega (arith, e, (parts_of l.sync o (λ none. usable) allowed.fits allowed.meets).size)
+
   abbrev place : Place
   place = place_of l o
 
@@ -139,14 +147,18 @@ module _ (j k : ℕ) (le : j ≤ k) (L l m : Left) (same : L.sync ≡ l.sync) (e
   plain : Unit_of
   plain = record { outer = written_unit input o.major o.entries o.body; contents = u.contents }
 
-  plain_retimes : Retimes j l m u plain more
+  plain_retimes : place.major ≡ false → Retimes j l m output u plain more
   unfolding plain
-  plain_retimes = record {
+  plain_retimes none = record {
     stands = stands_new j l m e o input o.body (own_meets l.sync o usable allowed input clock) on more (take (j + 1) u.contents)
         (plain_there j place l.substreams m.substreams (force_alike l m e) (folded l.check) o input o.body ((access_unit l.sync).spelling o)
         ((access_unit l.sync).spelling (written_unit input o.major o.entries o.body)) (λ i lt. own_stays l.sync o usable allowed input clock i (omega (arith, lt, le, deep)))
         (j + 1) [] (take (j + 1) u.contents) (omega arith) low_there);
     like = like_unit j l m (lowered j u) (lowered j plain) e refl refl;
+    fits = record {
+      outputs = All-same (Is output) (restart_timings u.contents) [] (all_none k place L.substreams (folded L.check) o ((access_unit l.sync).spelling o) none (k + 1) [] u.contents high_there) (All-nil (Is output));
+      length = same_size o.body refl;
+    };
   }
 
   module _ (major : IsTrue place.major) where
@@ -162,7 +174,7 @@ module _ (j k : ℕ) (le : j ≤ k) (L l m : Left) (same : L.sync ≡ l.sync) (e
         stamped_stand l.sync o usable allowed k place major L.substreams (folded L.check) output small u.contents high_there deep input clock before s (rest ++ drop (j + 1) u.contents)
         (sym (take-append-drop (j + 1) u.contents) ∙ ap (λ (xs : List Segment). xs ++ drop (j + 1) u.contents) is ∙ append_assoc before (s ∷ rest) (drop (j + 1) u.contents))
 
-    stamped_retimes : Retimes j l m u stamped_one more
+    stamped_retimes : Retimes j l m output u stamped_one more
     unfolding stamped_one
     stamped_retimes =
         let there = stamped_there j place l.substreams m.substreams (force_alike l m e) (folded l.check) o input body ((access_unit l.sync).spelling o)
@@ -173,6 +185,10 @@ module _ (j k : ℕ) (le : j ≤ k) (L l m : Left) (same : L.sync ≡ l.sync) (e
           stands = subst (λ (ss : List Segment). Stands j m more (record { outer = written_unit input o.major o.entries body; contents = ss })) (sym taken)
               (stands_new j l m e o input body meets on more (map (stamped output) (take (j + 1) u.contents)) there);
           like = like_unit j l m (lowered j u) (lowered j stamped_one) e refl (stamped_twice output (take (j + 1) u.contents) ∙ sym (ap (map (stamped 0)) taken));
+          fits = record {
+            outputs = all_stamped output u.contents;
+            length = same_size body (stamped_length l.sync o usable allowed k place major L.substreams (folded L.check) output small u.contents high_there deep);
+          };
         }
 
   abbrev by : Bool → Unit_of
@@ -181,12 +197,12 @@ module _ (j k : ℕ) (le : j ≤ k) (L l m : Left) (same : L.sync ≡ l.sync) (e
     contents = if b then map (stamped output) u.contents else u.contents;
   }
 
-  by_case : (b : Bool) → is_some o.major ≡ b → Retimes j l m u (by b) more
+  by_case : (b : Bool) → is_some o.major ≡ b → Retimes j l m output u (by b) more
   unfolding plain stamped_one
   by_case true is = stamped_retimes is
-  by_case false is = plain_retimes
+  by_case false is = plain_retimes is
 
-  pub unit_retimes : (sync : Option MajorSync) → in_force l.sync o.major ≡ sync → Retimes j l m u (retimed_unit sync input output u) more
+  pub unit_retimes : (sync : Option MajorSync) → in_force l.sync o.major ≡ sync → Retimes j l m output u (retimed_unit sync input output u) more
   unit_retimes sync first =
       let here : place_by sync o.major ≡ place = ap (λ (s : Option MajorSync). place_by s o.major) (sym first) ∙ place_forced l.sync o.major in
       let is : by (is_some o.major) ≡ retimed_unit sync input output u =
@@ -194,7 +210,7 @@ module _ (j k : ℕ) (le : j ≤ k) (L l m : Left) (same : L.sync ≡ l.sync) (e
         outer = written_unit input o.major o.entries (if is_some o.major then stamped_body (sym here i) output u else o.body);
         contents = if is_some o.major then map (stamped output) u.contents else u.contents;
       } in
-      subst (λ (w : Unit_of). Retimes j l m u w more) is (by_case (is_some o.major) refl)
+      subst (λ (w : Unit_of). Retimes j l m output u w more) is (by_case (is_some o.major) refl)
 
 -- ---- units
 
@@ -207,21 +223,28 @@ found_in : (j : ℕ) (l : Left) (others : List Bool) (v : Unit_of) → IsNext (w
 unfolding tested
 found_in j l others v c = record { fits = c.outer.fits; meets = c.outer.meets.1; stands = c.outer.stands }
 
-pub record AllRetimed (j : ℕ) (l m : Left) (us vs : List Unit_of) : Type 0 where
-  pub begins : Begins (whole j) m (texts vs) vs []
-  pub frames : frames_from j l us ≡ frames_from j m vs
-  pub steps : frames_by_steps j l us ≡ frames_by_steps j m vs
+-- units and the same retimed, as j reads them
+pub record AllRetimed (j : ℕ) (l m : Left) (p : Pace) (n : ℕ) (times : List ℕ) (us vs : List Unit_of) : Type 0 where
+  pub begins : Begins (whole j) m (texts (map (lowered j) vs)) (map (lowered j) vs) []
+  pub frames : frames_from j l (map (lowered j) us) ≡ frames_from j m (map (lowered j) vs)
+  pub steps : frames_by_steps j l (map (lowered j) us) ≡ frames_by_steps j m (map (lowered j) vs)
+  pub fit : AllFit p n times us vs
 
 module _ (j k : ℕ) (le : j ≤ k) (sync : Option MajorSync) (there : is_none sync ≡ false) (told : k < substreams_of sync) (p : Pace) where
-  pub begun_on : (first : Option MajorSync) (u : Unit_of) (us : List Unit_of) → in_force first u.outer.major ≡ sync → Begun sync (in_force first u.outer.major) us
+  begun_on : (first : Option MajorSync) (u : Unit_of) (us : List Unit_of) → in_force first u.outer.major ≡ sync → Begun sync (in_force first u.outer.major) us
   begun_on first u [] e = tt
   begun_on first u (v ∷ us) e = ap (λ (s : Option MajorSync). in_force s v.outer.major) e ∙ in_force_kept sync v.outer.major there
 
   pub all_retimed : (n : ℕ) (times : List ℕ) (us : List Unit_of) → length times ≡ length us → (L l m : Left) → L.sync ≡ l.sync → bare_left l ≡ bare_left m → FirstUsable l.sync → Begun sync l.sync us
       → (all others : List Bool) → Begins (whole k) L all us [] → Begins (whole j) l others (map (lowered j) us) []
-      → AllRetimed j l m (map (lowered j) us) (map (lowered j) (retimed_from sync p n times us))
+      → AllRetimed j l m p n times us (retimed_from sync p n times us)
   unfolding Begins after
-  all_retimed n times [] count L l m same e usable begun all others b c = record { begins = refl; frames = refl; steps = refl }
+  all_retimed n times [] count L l m same e usable begun all others b c = record {
+    begins = refl;
+    frames = refl;
+    steps = refl;
+    fit = record { lengths = refl; inputs = λ i lt. absurd (omega (arith, lt)); outputs = λ i lt. absurd (omega (arith, lt)) };
+  }
   all_retimed n [] (u ∷ us) count L l m same e usable begun all others b c = absurd (omega (arith, count))
   all_retimed n (t ∷ times) (u ∷ us) count L l m same e usable begun all others b c =
       let vs = retimed_from sync p (suc n) times us in
@@ -237,4 +260,9 @@ module _ (j k : ℕ) (le : j ≤ k) (sync : Option MajorSync) (there : is_none s
         begins = (one.stands.next, subst (λ (x : List Bool). Begins (whole j) (after j m (lowered j w)) x (map (lowered j) vs) []) (sym one.stands.rest) later.begins);
         frames = λ i. one.like.frames i ∷ later.frames i;
         steps = λ i. one.like.frames i ++ later.steps i;
+        fit = record {
+          lengths = λ i. one.fits.length i ∷ later.fit.lengths i;
+          inputs = input_at w us vs t times refl later.fit.inputs;
+          outputs = output_at w us vs p n one.fits.outputs later.fit.outputs;
+        };
       }

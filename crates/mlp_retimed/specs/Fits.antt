@@ -26,7 +26,7 @@ unit_timings u = record { input = u.outer.head.timing; outputs = restart_timings
 abbrev pub timings_at : List Unit_of → ℕ → UnitTimings
 timings_at us i = slice_index_or (map unit_timings us) i (record { input = 0; outputs = []; bytes = 0 })
 
--- behind this first major sync the units have the times of the earliest schedule of their lengths, and all their restarts
--- tell when they are output
+-- behind this first major sync the units have the times of the earliest schedule of their lengths, which all their
+-- restarts tell
 abbrev pub Fit : Option MajorSync → List Unit_of → Type 0
 Fit sync us = IsFitting (pace_in sync) (timings_at us) (length us)

@@ -12,7 +12,7 @@ use Rattle.mlp_retime.specs.Retimed.{length_of, IsRetimed}
 use Rattle.mlp_retime.specs.Laws.{IsHighest}
 use Rattle.mlp_retimed.specs.Plays.{BreaksHighest}
 
--- the bytes begin with these units, each of which meets the rules for the highest presentation that the first one tells
+-- the bytes begin with these units, which meet the rules for the highest presentation that the first one tells
 abbrev pub BeginHighest : List ℕ → List Unit_of → Type 0
 BeginHighest bytes us =
     (k : ℕ) × Has (whole k) (start k) (bits_of bytes) (k + 1)

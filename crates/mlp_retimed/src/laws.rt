@@ -45,7 +45,7 @@ pub fn law_highest()
 
 /// Retiming ends well exactly where the bytes are a stream whose lengths have a schedule. It stops with a fault exactly
 /// where the bytes break with it and the lengths of the units before have a schedule, and for want of room exactly at
-/// the first unit whose length has none behind those before it. What has come out then are the units before.
+/// the first unit whose length has none behind those before it. Then the units before have come out.
 pub fn law_ends()
     ensures well { (bytes output : List ℕ) → length bytes ≤ limit
         → Answer retiming bytes (Ok tt) output ↔ EndsWell bytes output }
