@@ -1,5 +1,5 @@
 -- Where retiming stops: at the first unit that breaks a rule, or for which there is no room.
-use Rattle.std.proofs.Common.{inl, ℕ, zero, suc, ◌%◌, ◌≤◌}
+use Rattle.std.proofs.Common.{inl, inr, ℕ, zero, suc, ◌%◌, ◌≤◌}
 use Rattle.std.proofs.Common.{◌≡◌, ◌≢◌, Bool, true, false, List, [], ◌∷◌, ◌++◌, length, take, map, Result, Ok, Err, Option, None, is_none, refl, sym, ap, subst, ◌∙◌, arith, append_assoc, length-append}
 use Rattle.std.specs.Prelude.{slice_index}
 use Rattle.std.proofs.lemmas.List.{append-nil, map-append, length-map, take_all, take_at}
@@ -31,7 +31,7 @@ use Rattle.mlp_retime.proofs.Decoders.{in_force_kept}
 use Rattle.mlp_retime.proofs.Pieces.{timed, placed_on, first_placed, sync_on, gives_all, stream_retimed}
 use Rattle.mlp_retime.proofs.RetimeFollows.{fifo_more}
 use Rattle.mlp_retime.proofs.TopStreams.{first_told}
-use Rattle.mlp_retimed.specs.Stops.{BeginHighest, CameOut, EndsWell, StopsAtFault, StopsForRoom}
+use Rattle.mlp_retimed.specs.Stops.{BeginHighest, CameOut, EndsWell, StopsAtFault, StopsForRoom, IsFaultOrNoRoom}
 use Rattle.mlp_retimed.proofs.TopBack.{first_tells, units_highest, first_back, first_on, fails_highest, highest_fails}
 
 -- ---- what a unit gives
@@ -396,3 +396,15 @@ was_fault bytes fault output few a = stops_by bytes (refusing (refused.Fault fau
 
 pub was_for_room : (bytes : List ℕ) (e : NoRoom) (output : List ℕ) → length bytes ≤ limit → Answer retiming bytes (refusing (refused.NoRoom e)) output → StopsForRoom bytes e output
 was_for_room bytes e output few a = stops_by bytes (refusing (refused.NoRoom e)) output (a.within few)
+
+one_of_both : (bytes : List ℕ) (r : Refusal) (output : List ℕ) → Stops bytes (Err (Refused r)) output → IsFaultOrNoRoom r
+one_of_both bytes (refused.Fault fault) output s = inl (fault, refl)
+one_of_both bytes (refused.Pcm fault) output s = absurd s
+one_of_both bytes (refused.NoRoom e) output s = inr (e, refl)
+one_of_both bytes (refused.NoPresentation have) output s = absurd s
+one_of_both bytes (refused.LowBits frame) output s = absurd s
+one_of_both bytes (refused.NoRestart unit) output s = absurd s
+one_of_both bytes (refused.NotThere units) output s = absurd s
+
+pub fault_or_room : (bytes : List ℕ) (r : Refusal) (output : List ℕ) → length bytes ≤ limit → Answer retiming bytes (refusing r) output → IsFaultOrNoRoom r
+fault_or_room bytes r output few a = one_of_both bytes r output (stops_by bytes (refusing r) output (a.within few))

@@ -1,10 +1,12 @@
 -- Where retiming stops, and what has come out by then.
-use Rattle.std.specs.Prelude.{◌≡◌, ◌≢◌, ℕ, suc, ◌+◌, Bool, List, [], length, take, map}
+use Rattle.std.specs.Prelude.{◌≡◌, ◌≢◌, ◌⊎◌, ℕ, suc, ◌+◌, Bool, List, [], length, take, map}
 use Rattle.mlp_syntax.specs.declared.fault.Fault.{Fault}
 use Rattle.mlp_syntax.specs.declared.refusal.NoRoom.{NoRoom}
 use Rattle.mlp_bits.specs.Bits.{bits_of}
 use Rattle.mlp_layout.specs.Streams.{Has, Begins}
 use Rattle.mlp_unit.specs.AccessUnit.{stream_kind, stream_rate}
+use Rattle.mlp_stream.specs.declared.refusal.Refusal.{Refusal}
+use Rattle.mlp_stream.specs.declared.refusal.Refusal.TheVariants as refused
 use Rattle.mlp_cut.specs.Cut.{first_sync, units_bytes}
 use Rattle.mlp_contents.specs.Units.{Unit_of, start, whole}
 use Rattle.mlp_fifo.specs.Placed.{LacksRoom}
@@ -46,3 +48,7 @@ pub record StopsForRoom (bytes : List ℕ) (e : NoRoom) (output : List ℕ) : Ty
   pub count : length units ≡ suc e.unit
   pub lacks : let sync = first_sync units in LacksRoom (stream_kind sync) (stream_rate sync) (map length_of units) e
   pub came_out : CameOut (take e.unit units) output
+
+-- a fault, or want of room
+abbrev pub IsFaultOrNoRoom : Refusal → Type 0
+IsFaultOrNoRoom r = ((fault : Fault) × (r ≡ refused.Fault fault)) ⊎ ((e : NoRoom) × (r ≡ refused.NoRoom e))

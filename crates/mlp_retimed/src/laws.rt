@@ -5,6 +5,7 @@ ghost use Rattle.mlp_syntax.specs.declared.refusal.NoRoom.{NoRoom};
 ghost use Rattle.mlp_io.specs.Limit.{limit};
 ghost use Rattle.mlp_bits.specs.Bits.{bits_of};
 ghost use Rattle.mlp_layout.specs.Streams.{Stream, Units, UnitsFail};
+ghost use Rattle.mlp_stream.specs.declared.refusal.Refusal.{Refusal};
 ghost use Rattle.mlp_stream.specs.declared.refusal.Refusal.TheVariants as refused;
 ghost use Rattle.mlp_answers.specs.Answers.{Answer, refusing};
 ghost use Rattle.mlp_cut.specs.Cut.{first_sync, units_bytes};
@@ -18,7 +19,7 @@ ghost use Rattle.mlp_retime.specs.Retiming.{retiming};
 ghost use Rattle.mlp_retime.specs.Laws.{IsHighest};
 ghost use Rattle.mlp_retimed.specs.Plays.{PlaysAs, BreaksHighest};
 ghost use Rattle.mlp_retimed.specs.Fits.{Fit};
-ghost use Rattle.mlp_retimed.specs.Stops.{EndsWell, StopsAtFault, StopsForRoom};
+ghost use Rattle.mlp_retimed.specs.Stops.{EndsWell, StopsAtFault, StopsForRoom, IsFaultOrNoRoom};
 
 /// Let the units of a stream get the times of the earliest schedule. For each presentation for which its bytes are a
 /// stream the retimed units are one too, with the same frames and samples. Their times and those in all their restarts
@@ -45,7 +46,8 @@ pub fn law_highest()
 
 /// Retiming ends well exactly where the bytes are a stream whose lengths have a schedule. It stops with a fault exactly
 /// where the bytes break with it and the lengths of the units before have a schedule, and for want of room exactly at
-/// the first unit whose length has none behind those before it. Then the units before have come out.
+/// the first unit whose length has none behind those before it; it refuses nothing else. Then the units before have
+/// come out.
 pub fn law_ends()
     ensures well { (bytes output : List ℕ) → length bytes ≤ limit
         → Answer retiming bytes (Ok tt) output ↔ EndsWell bytes output }
@@ -53,4 +55,6 @@ pub fn law_ends()
         → Answer retiming bytes (refusing (refused.Fault fault)) output ↔ StopsAtFault bytes fault output }
     ensures room { (bytes : List ℕ) (e : NoRoom) (output : List ℕ) → length bytes ≤ limit
         → Answer retiming bytes (refusing (refused.NoRoom e)) output ↔ StopsForRoom bytes e output }
+    ensures only { (bytes : List ℕ) (r : Refusal) (output : List ℕ) → length bytes ≤ limit
+        → Answer retiming bytes (refusing r) output → IsFaultOrNoRoom r }
 {}
