@@ -107,7 +107,8 @@ module _ (p : Profile) (ok : checked p ≡ Ok tt) (ended seen : Bool) where
   chop : (turns n : ℕ) (pcm : List ℕ) → length pcm < turns → (0 < length pcm) ⊎ (n ≡ 0) → Chopped n pcm
   chop zero n pcm few d = absurd (omega arith)
   chop (suc turns) n pcm few d = elim (cases_lt (full_size p) (length pcm)) [
-    | inl lt ↦ on_first n pcm lt d (chop turns (n + 1) (drop (full_size p) pcm) (omega (arith, few, is.full_some, lt, length-drop (full_size p) pcm)) (inl (omega (arith, lt, length-drop (full_size p) pcm)))) (first_padded p (take (full_size p) pcm)) refl
+    | inl lt ↦ on_first n pcm lt d
+        (chop turns (n + 1) (drop (full_size p) pcm) (omega (arith, few, is.full_some, lt, length-drop (full_size p) pcm)) (inl (omega (arith, lt, length-drop (full_size p) pcm)))) (first_padded p (take (full_size p) pcm)) refl
     | inr ge ↦ alone n pcm (an_end n pcm d ge seen refl)
   ]
 

@@ -221,7 +221,8 @@ waits_unit left to_come moves profile units refusal next pcm seen b is none more
     let t = parts left to_come moves in
     let ok : checked h.0.profile ≡ Ok tt = ap checked h.2 ∙ is.passes in
     let d = data_in to_come next in
-    let open_is : b ≡ is_open h.0.profile (is_seen to_come false next) d = b_is ∙ ap (λ (p : Profile). is_open p seen pcm) (sym h.2) ∙ ap (λ (x : Bool). is_open h.0.profile x pcm) seen_is ∙ ap (is_open h.0.profile (is_seen to_come false next)) pcm_is in
+    let open_is : b ≡ is_open h.0.profile (is_seen to_come false next) d =
+    b_is ∙ ap (λ (p : Profile). is_open p seen pcm) (sym h.2) ∙ ap (λ (x : Bool). is_open h.0.profile x pcm) seen_is ∙ ap (is_open h.0.profile (is_seen to_come false next)) pcm_is in
     let at : encode_step s false next ≡ if_waits (is_open h.0.profile (is_seen to_come false next) d) (sends t h.0 (part_of h.0.profile d) (is_last h.0.profile d)) =
     ap (λ (x : Encoding). encode_step x false next) (sym e) ∙ step_going t h.0 false next some h.1 ok ∙ step_unit t h.0 to_come false next more in
     subst (λ (x : Bool). IsTrue x ↔ (encode_step s false next ≡ Waits)) (sym open_is)

@@ -36,7 +36,7 @@ module _ (p : Profile) (ok : checked p ≡ Ok tt) where
 
   -- ---- no bytes are whole frames without a fault
 
-  zero_mod : 0 % frame_size p ≡ 0
+  pub zero_mod : 0 % frame_size p ≡ 0
   zero_mod = let z : 0 * frame_size p ≡ 0 = grind arith in ap (λ (k : ℕ). k % frame_size p) (sym z) ∙ mul-mod_left 0 (frame_size p)
 
   zero_div : 0 / frame_size p ≡ 0
@@ -46,7 +46,7 @@ module _ (p : Profile) (ok : checked p ≡ Ok tt) where
   unfolding first_failing
   nothing_padded = ap (first_failing (are_clear p.depth)) (pieces_none (row_in (sample_size p.depth) p.channels) (frame_size p) (0 / frame_size p) [] zero_div)
 
-  padded_some : (rest : List ℕ) (frame : ℕ) → first_padded p (take (full_size p) rest) ≡ Some frame → 0 < length rest
+  pub padded_some : (rest : List ℕ) (frame : ℕ) → first_padded p (take (full_size p) rest) ≡ Some frame → 0 < length rest
   padded_some rest frame e = elim (cases_lt 0 (length rest)) [
     | inl lt ↦ lt
     | inr none ↦ (
@@ -63,7 +63,7 @@ module _ (p : Profile) (ok : checked p ≡ Ok tt) where
 
   -- ---- behind units something comes
 
-  ends_some : (n m : ℕ) (ended seen : Bool) (rest : List ℕ) (more : List (List (List ℤ))) (last : Bool) (end : Result Unit Stop) → 0 < m → Ends p m ended seen rest more last end → 0 < length rest
+  pub ends_some : (n m : ℕ) (ended seen : Bool) (rest : List ℕ) (more : List (List (List ℤ))) (last : Bool) (end : Result Unit Stop) → 0 < m → Ends p m ended seen rest more last end → 0 < length rest
   ends_some n m ended seen rest more last end some (whole s l) = l.some
   ends_some n m ended seen rest more last end some (empty s z r) = absurd (omega (arith, z, some))
   ends_some n m ended seen rest more last end some (padded frame d e) = padded_some rest frame e
@@ -96,7 +96,7 @@ module _ (p : Profile) (ok : checked p ≡ Ok tt) where
   abbrev short_by : Bool → Option PcmFault
   short_by short = if short then Some fault.PartialUnit else None
 
-  cut_none : (rest : List ℕ) → IsLastUnit p rest → cut_fault p rest ≡ None
+  pub cut_none : (rest : List ℕ) → IsLastUnit p rest → cut_fault p rest ≡ None
   cut_none rest l =
       ap (λ (b : Bool). cut_by rest (not b)) (eq-eqb (length rest % frame_size p) 0 l.whole) ∙ ap short_by (kind_by p.kind refl)
     where

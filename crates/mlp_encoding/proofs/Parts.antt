@@ -34,7 +34,7 @@ abbrev whole_in : ℕ → List ℕ → List ℕ
 whole_in f bytes = take (length bytes - length bytes % f) bytes
 
 -- a value that is read from its first bytes alone
-abbrev IsRead : {A : Type 0} → (List ℕ → A) → ℕ → Type 0
+abbrev pub IsRead : {A : Type 0} → (List ℕ → A) → ℕ → Type 0
 IsRead value size = (m : ℕ) (bytes : List ℕ) → size ≤ m → value (take m bytes) ≡ value bytes
 
 pieces_front : {A : Type 0} (value : List ℕ → A) (size n m : ℕ) (bytes : List ℕ) → IsRead value size → n * size ≤ m → pieces value size n (take m bytes) ≡ pieces value size n bytes
@@ -64,7 +64,7 @@ sample_front : (width depth : ℕ) → IsForm width depth → IsRead (sample_in 
 sample_front width depth (inl h) = subst (λ (w : ℕ). IsRead (sample_in w) w) (sym h.0) sample_2
 sample_front width depth (inr h) = subst (λ (w : ℕ). IsRead (sample_in w) w) (sym h.0) sample_3
 
-row_front : (width depth channels : ℕ) → IsForm width depth → IsRead (row_in width channels) (channels * width)
+pub row_front : (width depth channels : ℕ) → IsForm width depth → IsRead (row_in width channels) (channels * width)
 row_front width depth channels form m bytes le =
     ap (λ (xs : List ℤ). xs ++ replicate (8 - channels) (pos 0)) (pieces_front (sample_in width) width channels m bytes (sample_front width depth form) le)
 
@@ -80,8 +80,13 @@ module _ (p : Profile) (is : AreSizes p) (part : List ℕ) where
 
   front_count : length front / frame_size p ≡ length part / frame_size p
   front_count =
-      let below : length part / frame_size p * frame_size p < suc (length part / frame_size p) * frame_size p = let one : suc (length part / frame_size p) * frame_size p ≡ length part / frame_size p * frame_size p + frame_size p = grind arith in omega (arith, one, is.frame_some) in
-      omega (arith, le-div (length part / frame_size p) (length front) (frame_size p) is.frame_some (omega (arith, front_length)), div_below (length front) (frame_size p) (suc (length part / frame_size p)) is.frame_some (omega (arith, front_length, below)))
+      let below : length part / frame_size p * frame_size p < suc (length part / frame_size p) * frame_size p =
+      let one : suc (length part / frame_size p) * frame_size p ≡ length part / frame_size p * frame_size p + frame_size p = grind arith in omega (arith, one, is.frame_some) in
+      omega (
+        arith,
+        le-div (length part / frame_size p) (length front) (frame_size p) is.frame_some (omega (arith, front_length)),
+        div_below (length front) (frame_size p) (suc (length part / frame_size p)) is.frame_some (omega (arith, front_length, below)),
+      )
 
   pub front_whole : length front % frame_size p ≡ 0
   front_whole = ap (λ (n : ℕ). n % frame_size p) front_length ∙ mul-mod_left (length part / frame_size p) (frame_size p)

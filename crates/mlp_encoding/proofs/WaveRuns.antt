@@ -113,14 +113,16 @@ module _ (kind : Kind) (mix : Mix) where
         past = λ lt. subst (λ (xs : List ℕ). Made false xs end []) (sym front_is) (h false (take (limit - length front) ys));
       }
 
-  pub encodes_unfit : (before behind written : Option (List ℕ)) (info : WaveInfo) → Began before behind info → (f : ProfileFault) → checked (profile_in kind mix (format_of info)) ≡ Err f → (e : Failure) → e ≡ Stopped (Refused (refusal.Pcm (fault.Profile f)))
+  pub encodes_unfit : (before behind written : Option (List ℕ)) (info : WaveInfo) → Began before behind info → (f : ProfileFault) → checked (profile_in kind mix (format_of info)) ≡ Err f
+      → (e : Failure) → e ≡ Stopped (Refused (refusal.Pcm (fault.Profile f)))
       → EncodesWave kind mix (between before behind) (between written written) (Err e)
   encodes_unfit before behind written info is f bad e e_is =
       subst (λ (x : Failure). Does Made (between before behind) (between written written) (Err x)) (sym e_is)
       (stops_at Made before behind written is.0 TooLong (Stopped (Refused (refusal.Pcm (fault.Profile f)))) is.1 (omega (arith, is.2, is.3))
       (answers before behind is.0 (refusing (fault.Profile f)) is.1 (omega (arith, is.2, is.3)) (λ ended ys. unfit (format_of info) info.size ys f (begins_more is.0 ys (format_of info) info.size [] is.4) bad)))
 
-  pub encodes_empty : (before behind written : Option (List ℕ)) (info : WaveInfo) → Began before behind info → checked (profile_in kind mix (format_of info)) ≡ Ok tt → info.size ≡ 0 → (e : Failure) → e ≡ Stopped (Refused (refusal.Pcm fault.Empty))
+  pub encodes_empty : (before behind written : Option (List ℕ)) (info : WaveInfo) → Began before behind info → checked (profile_in kind mix (format_of info)) ≡ Ok tt → info.size ≡ 0
+      → (e : Failure) → e ≡ Stopped (Refused (refusal.Pcm fault.Empty))
       → EncodesWave kind mix (between before behind) (between written written) (Err e)
   encodes_empty before behind written info is ok nil e e_is =
       let p = profile_in kind mix (format_of info) in
@@ -145,7 +147,8 @@ module _ (kind : Kind) (mix : Mix) where
     prompt = λ early late split far. soon_none xs early late field says split (header (length early) early) (length early, refl) (header_known early);
   }
 
-  cut_answer : (before behind : Option (List ℕ)) (xs : List ℕ) (field : WaveField) → Consumes before behind xs → length xs ≤ limit → Says xs (unfinished field) → IsAtEnd behind → IfSome before (λ all. Answer Made all (refusing (fault.WaveHeader field)) [])
+  cut_answer : (before behind : Option (List ℕ)) (xs : List ℕ) (field : WaveField) → Consumes before behind xs → length xs ≤ limit → Says xs (unfinished field) → IsAtEnd behind
+      → IfSome before (λ all. Answer Made all (refusing (fault.WaveHeader field)) [])
   cut_answer None behind xs field c fits says over = tt
   cut_answer (Some all) None xs field c fits says over = absurd c
   cut_answer (Some all) (Some ys) xs field c fits says over =

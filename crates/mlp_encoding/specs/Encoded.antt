@@ -17,7 +17,8 @@ end_by end (Err e) = Err (Refused (refused.NoRoom e))
 
 -- the end and the output, where a header states so many bytes of data, if it does, and bytes are all (true) or may go
 -- on (false)
-pub record Encoded (p : Profile) (size : Option ℕ) (ended : Bool) (bytes : List ℕ) (end : Result Unit Stop) (output : List ℕ) : Type 0 where
+pub record Encoded (p : Profile) (size : Option ℕ) (ended : Bool) (bytes : List ℕ)
+    (end : Result Unit Stop) (output : List ℕ) : Type 0 where
   pub frames : List (List (List ℤ))
   pub last : Bool
   pub pcm_end : Result Unit Stop

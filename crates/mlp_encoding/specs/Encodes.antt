@@ -80,7 +80,8 @@ stop_of (Err (Stopped stop)) = Err stop
 abbrev pub EncodesBy : Wanted → Result Unit ProfileFault → Side → Side → Result Unit Failure → Type 0
 EncodesBy p (Ok _) input output end = Does (Encoded p None) input output end
 EncodesBy p (Err fault) input output end =
-    (end ≡ Err (Stopped (Refused (Pcm (Profile fault))))) × (input.behind ≡ input.before) × (output.behind ≡ output.before)
+    (end ≡ Err (Stopped (Refused (Pcm (Profile fault)))))
+    × (input.behind ≡ input.before) × (output.behind ≡ output.before)
 
 -- raw PCM of this profile is encoded
 abbrev pub EncodesRaw : Wanted → Side → Side → Result Unit Failure → Type 0

@@ -96,7 +96,8 @@ unit_step s g seen pcm =
 abbrev pub data_step : Encoding → Going → Option ℕ → Bool → List ℕ → Move Encoding
 data_step s g None ended bytes = unit_step s g ended bytes
 data_step s g (Some zero) ended bytes = passed_over s ended bytes
-data_step s g (Some (suc n)) ended bytes = unit_step s g (is_seen (Some (suc n)) ended bytes) (data_in (Some (suc n)) bytes)
+data_step s g (Some (suc n)) ended bytes =
+    unit_step s g (is_seen (Some (suc n)) ended bytes) (data_in (Some (suc n)) bytes)
 
 -- no session has another profile than one that passes
 abbrev pub on_profile : Encoding → Going → Result Unit ProfileFault → Bool → List ℕ → Move Encoding

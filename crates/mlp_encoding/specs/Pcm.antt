@@ -72,9 +72,10 @@ abbrev pub complete : Bool → Result Unit Stop
 complete true = Ok tt
 complete false = Err TooLong
 
--- What is behind so many full units, where bytes and data end or may go on: the frames of one more unit, or none; whether
--- that unit is the last one; and how it ends, if each unit has a place.
-pub data Ends (p : Profile) (units : ℕ) (ended seen : Bool) (rest : List ℕ) : List (List (List ℤ)) → Bool → Result Unit Stop → Type 0 where
+-- What is behind so many full units, where bytes and data end or may go on: the frames of one more unit, or none;
+-- whether that unit is the last one; and how it ends, if each unit has a place.
+pub data Ends (p : Profile) (units : ℕ) (ended seen : Bool) (rest : List ℕ) :
+    List (List (List ℤ)) → Bool → Result Unit Stop → Type 0 where
   -- the last unit
   whole : seen ≡ true → IsLastUnit p rest → Ends p units ended seen rest (frames_in p rest ∷ []) true (complete ended)
   -- there was no byte of data
@@ -94,8 +95,10 @@ pub data Ends (p : Profile) (units : ℕ) (ended seen : Bool) (rest : List ℕ) 
       → (length rest ≡ full_size p → first_padded p rest ≡ None)
       → Ends p units ended seen rest [] false (Err TooLong)
 
--- Data are the frames of these units, the last of which is the last one of all (true) or not (false), up to how they end.
-pub record IsPcm (p : Profile) (ended seen : Bool) (pcm : List ℕ) (frames : List (List (List ℤ))) (last : Bool) (end : Result Unit Stop) : Type 0 where
+-- Data are the frames of these units, the last of which is the last one of all (true) or not (false), up to how they
+-- end.
+pub record IsPcm (p : Profile) (ended seen : Bool) (pcm : List ℕ)
+    (frames : List (List (List ℤ))) (last : Bool) (end : Result Unit Stop) : Type 0 where
   pub units : List (List ℕ)
   pub rest : List ℕ
   pub more : List (List (List ℤ))

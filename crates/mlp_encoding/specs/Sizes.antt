@@ -48,10 +48,13 @@ sizes p e =
     let c = channels_there p.kind p.channels h.channels in
     let s = sample_bounds p.depth in
     let u = unit_least p.rate in
-    let frame_least : 1 * 2 ≤ frame_size p = mul-le-mul {n₁ = 1} {m₁ = 2} {n₂ = p.channels} {m₂ = sample_size p.depth} c.0 s.0 in
+    let frame_least : 1 * 2 ≤ frame_size p =
+    mul-le-mul {n₁ = 1} {m₁ = 2} {n₂ = p.channels} {m₂ = sample_size p.depth} c.0 s.0 in
     let frame_most : frame_size p ≤ 8 * 3 = mul-le p.channels (sample_size p.depth) 8 3 c.1 s.1 in
-    let full_least : 40 * 2 ≤ full_size p = mul-le-mul {n₁ = 40} {m₁ = 2} {n₂ = unit_of p.rate} {m₂ = frame_size p} u (omega (arith, frame_least)) in
-    let full_most : full_size p ≤ 160 * 24 = mul-le (unit_of p.rate) (frame_size p) 160 24 (unit_most p.rate) frame_most in
+    let full_least : 40 * 2 ≤ full_size p =
+    mul-le-mul {n₁ = 40} {m₁ = 2} {n₂ = unit_of p.rate} {m₂ = frame_size p} u (omega (arith, frame_least)) in
+    let full_most : full_size p ≤ 160 * 24 =
+    mul-le (unit_of p.rate) (frame_size p) 160 24 (unit_most p.rate) frame_most in
     record {
       form = form_there p.depth h.depth;
       some_channels = c.0;

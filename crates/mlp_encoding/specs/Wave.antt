@@ -27,7 +27,8 @@ profile_in kind mix format =
     record { kind = kind; rate = format.rate; channels = format.channels; depth = format.depth; mix = mix }
 
 -- the end and the output, where bytes are all (true) or may go on (false)
-pub data WaveEncoded (kind : Kind) (mix : Mix) (ended : Bool) (bytes : List ℕ) : Result Unit Stop → List ℕ → Type 0 where
+pub data WaveEncoded (kind : Kind) (mix : Mix) (ended : Bool) (bytes : List ℕ) :
+    Result Unit Stop → List ℕ → Type 0 where
   -- the data behind a header are encoded
   encoded : {end : Result Unit Stop} {output : List ℕ} (format : Format) (size : ℕ) (rest : List ℕ)
       → Says bytes (begins format size rest) → checked (profile_in kind mix format) ≡ Ok tt
@@ -38,7 +39,8 @@ pub data WaveEncoded (kind : Kind) (mix : Mix) (ended : Bool) (bytes : List ℕ)
       → Says bytes (begins format size rest) → checked (profile_in kind mix format) ≡ Err fault
       → WaveEncoded kind mix ended bytes (refusing (Profile fault)) []
   -- a header with a wrong field
-  wrong : (field : WaveField) → Says bytes (refused field) → WaveEncoded kind mix ended bytes (refusing (WaveHeader field)) []
+  wrong : (field : WaveField) → Says bytes (refused field)
+      → WaveEncoded kind mix ended bytes (refusing (WaveHeader field)) []
   -- .. or which is cut off
   cut : (field : WaveField) → ended ≡ true → Says bytes (unfinished field)
       → WaveEncoded kind mix ended bytes (refusing (WaveHeader field)) []

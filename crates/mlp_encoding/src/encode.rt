@@ -16,8 +16,8 @@ use std::marker::Model;
 /// The bytes behind the data that are passed over at once.
 const PAGE: usize = 4096;
 
-/// Encodes PCM, one access unit at a time. To a contract it is what the units sent so far leave, the bytes of data still
-/// to come, and how often it took bytes.
+/// Encodes PCM, one access unit at a time. To a contract it is what the units sent so far leave, the bytes of data
+/// still to come, and how often it took bytes.
 #[derive(Drop)]
 pub struct Encode {
     encoder: Encoder,
@@ -40,7 +40,8 @@ impl Model for Encode {
 }
 
 impl Encode {
-    /// A session that has sent no unit, of PCM of so many bytes if a header told. It takes all memory that it ever needs.
+    /// A session that has sent no unit, of PCM of so many bytes if a header told. It takes all memory that it ever
+    /// needs.
     ///
     /// # Errors
     ///

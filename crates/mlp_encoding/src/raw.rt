@@ -37,9 +37,9 @@ pub fn refused(fault: PcmFault) -> Failure
 ///
 /// # Errors
 ///
-/// [`Failure::OutOfMemory`] where there is no memory; nothing is read then. [`Failure::Stopped`] with what stops the work:
-/// a refusal of the profile, of the PCM or of a unit that has no place, a fault of either side, or an input that is too
-/// long. It is never [`Failure::Usage`].
+/// [`Failure::OutOfMemory`] where there is no memory; nothing is read then. [`Failure::Stopped`] with what stops the
+/// work: a refusal of the profile, of the PCM or of a unit that has no place, a fault of either side, or an input that
+/// is too long. It is never [`Failure::Usage`].
 pub fn encode_raw<S: Source, K: Sink>(
     alloc: Global,
     profile: Profile,

@@ -58,9 +58,9 @@ fn begin(kind: Kind, mix: Mix, info: &WaveInfo, session: &mut Encode) -> Result<
 ///
 /// # Errors
 ///
-/// [`Failure::OutOfMemory`] where there is no memory; nothing is read then. [`Failure::Stopped`] with what stops the work:
-/// a refusal of the header, of its profile, of the PCM or of a unit that has no place, a fault of either side, or an input
-/// that is too long. It is never [`Failure::Usage`].
+/// [`Failure::OutOfMemory`] where there is no memory; nothing is read then. [`Failure::Stopped`] with what stops the
+/// work: a refusal of the header, of its profile, of the PCM or of a unit that has no place, a fault of either side, or
+/// an input that is too long. It is never [`Failure::Usage`].
 pub fn encode_wave<S: Source, K: Sink>(
     alloc: Global,
     kind: Kind,

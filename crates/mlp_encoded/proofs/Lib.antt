@@ -1,0 +1,2 @@
+pub mod WholeStreams
+pub mod OneAnswer
