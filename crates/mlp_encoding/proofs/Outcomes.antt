@@ -27,6 +27,7 @@ use Rattle.mlp_encoding.specs.Encoding.{Encoding, less, part_of, is_last, is_ope
 use Rattle.mlp_encoding.specs.Sizes.{AreSizes, sizes}
 use Rattle.mlp_encoding.specs.EncodeLaws.{encode_lawful, closed_long, closed_padded, open_short, open_clear}
 use Rattle.mlp_pcm.proofs.Pieces.{pieces_none}
+use Rattle.mlp_encoding.proofs.Parts.{cut_by, short_by}
 use Rattle.mlp_encoding.proofs.EncodeSteps.{parts}
 use Rattle.mlp_encoding.proofs.Sending.{Comes, runs, At, Comes_of, send_comes, refuse_comes, next_at, step_open, step_closed, step_sends, finished_by, data_less, seen_less, more_less, open_ended, bytes_there, no_bytes, seen_nil}
 
@@ -87,29 +88,20 @@ module _ (p : Profile) (ok : checked p ≡ Ok tt) where
 
   -- ---- what cuts the last unit off
 
-  abbrev cut_by : List ℕ → Bool → Option PcmFault
-  cut_by part cut =
-      if cut then Some fault.PartialFrame
-      else if is_fbb p.kind && nat_lt (length part) (full_size p) then Some fault.PartialUnit
-      else None
-
-  abbrev short_by : Bool → Option PcmFault
-  short_by short = if short then Some fault.PartialUnit else None
-
   pub cut_none : (rest : List ℕ) → IsLastUnit p rest → cut_fault p rest ≡ None
   cut_none rest l =
-      ap (λ (b : Bool). cut_by rest (not b)) (eq-eqb (length rest % frame_size p) 0 l.whole) ∙ ap short_by (kind_by p.kind refl)
+      ap (λ (b : Bool). cut_by p rest (not b)) (eq-eqb (length rest % frame_size p) 0 l.whole) ∙ ap short_by (kind_by p.kind refl)
     where
       kind_by : (k : Kind) → p.kind ≡ k → (is_fbb p.kind && nat_lt (length rest) (full_size p)) ≡ false
       kind_by Fba e = ap (λ (k : Kind). is_fbb k && nat_lt (length rest) (full_size p)) e
       kind_by Fbb e = ap (λ (k : Kind). is_fbb k && nat_lt (length rest) (full_size p)) e ∙ le-ltb (length rest) (full_size p) (omega (arith, l.full e))
 
   cut_a_frame : (rest : List ℕ) → length rest % frame_size p ≢ 0 → cut_fault p rest ≡ Some fault.PartialFrame
-  cut_a_frame rest ne = ap (λ (b : Bool). cut_by rest (not b)) (ne_eqb (length rest % frame_size p) 0 ne)
+  cut_a_frame rest ne = ap (λ (b : Bool). cut_by p rest (not b)) (ne_eqb (length rest % frame_size p) 0 ne)
 
   cut_a_unit : (rest : List ℕ) → p.kind ≡ Fbb → length rest < full_size p → length rest % frame_size p ≡ 0 → cut_fault p rest ≡ Some fault.PartialUnit
   cut_a_unit rest k lt w =
-      ap (λ (b : Bool). cut_by rest (not b)) (eq-eqb (length rest % frame_size p) 0 w)
+      ap (λ (b : Bool). cut_by p rest (not b)) (eq-eqb (length rest % frame_size p) 0 w)
       ∙ ap short_by (ap (λ (k : Kind). is_fbb k && nat_lt (length rest) (full_size p)) k ∙ lt-ltb (length rest) (full_size p) lt)
 
   -- ---- what is behind the full units

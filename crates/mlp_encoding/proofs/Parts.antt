@@ -148,13 +148,13 @@ row_samples width depth channels row form few h c lt =
 
 -- ---- the next unit
 
-abbrev cut_by : Profile → List ℕ → Bool → Option PcmFault
+abbrev pub cut_by : Profile → List ℕ → Bool → Option PcmFault
 cut_by p part cut =
     if cut then Some fault.PartialFrame
     else if is_fbb p.kind && nat_lt (length part) (full_size p) then Some fault.PartialUnit
     else None
 
-abbrev short_by : Bool → Option PcmFault
+abbrev pub short_by : Bool → Option PcmFault
 short_by short = if short then Some fault.PartialUnit else None
 
 cut_some : (p : Profile) (part : List ℕ) → cut_by p part true ≡ None → ⊥
