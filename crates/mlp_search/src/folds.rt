@@ -61,6 +61,30 @@ pub(crate) fn fold_sum(values: &[i32], offset: i16) -> u64
     u64::from(sum)
 }
 
+/// How far a value lies from an offset.
+#[inline]
+fn distance(value: &i32, offset: i16) -> u32
+    requires { folded (value.now -ℤ offset) < 25165824 }
+    ensures twice { 2 * result ≤ folded (value.now -ℤ offset) + 1 }
+    ensures few { result ≤ 12582912 }
+{
+    (*value - i32::from(offset)).unsigned_abs()
+}
+
+/// Twice the sum of the distances, which is no more than the sum of the folded values, each raised by 1.
+pub(crate) fn distance_sum(values: &[i32], offset: i16) -> u64
+    requires few { length values.now ≤ 160 }
+    requires small { top_of (all_folded offset values.now) < 25165824 }
+    ensures value { result ≤ raised_sum (all_folded offset values.now) }
+    ensures few { result < 2 ^ 32 }
+{
+    let mut sum: u32 = 0;
+    for value in values {
+        sum += distance(value, offset);
+    }
+    2 * u64::from(sum)
+}
+
 /// How many bits a symbol takes, of a folded value over 2^b.
 #[inline]
 pub(crate) fn symbol_bits<const BOOK: u8>(p: u32) -> u32

@@ -9,7 +9,7 @@ ghost use Rattle.mlp_search.specs.Cost.{is_offset, parameter_sum};
 ghost use Rattle.mlp_search.specs.Folded.{folded, stepped, all_folded, top_of, all_symbol_bits, raised_sum};
 ghost use Rattle.mlp_search.specs.Trial.{Writes, IsTrial, IsSide, IsSmall, AreSides};
 
-use crate::folds::{fold_sum, moved_far};
+use crate::folds::{distance_sum, fold_sum, moved_far};
 use crate::trial::Trial;
 use mlp_params::ChannelState;
 
@@ -64,7 +64,10 @@ fn sum_of(values: &[i32], offset: i16, top: u64) -> u64
     if top >= 1073741824 {
         return 0;
     }
-    fold_sum(values, offset)
+    if top >= 25165824 {
+        return fold_sum(values, offset);
+    }
+    distance_sum(values, offset)
 }
 
 /// Of so many numbers of low bits the one for which a sum bounds the bits of `count` codes least.
