@@ -14,7 +14,8 @@ use Rattle.mlp_stream.specs.Pumped as pumped
 use Rattle.mlp_answers.specs.declared.failure.Failure.{Failure}
 use Rattle.mlp_answers.specs.declared.failure.Failure.TheVariants.{OutOfMemory}
 use Rattle.mlp_encoding.specs.Encoding.{Encoding, encode_step, encode_last}
-use Rattle.mlp_encoding.specs.Encodes.{Answer, Soon, IsTimely, Begun, Wrote, Does, stopped_by}
+use Rattle.mlp_answers.specs.Failures.{end_of}
+use Rattle.mlp_encoding.specs.Encodes.{Answer, Soon, IsTimely, Begun, Wrote, Does}
 use Rattle.mlp_encoding.proofs.Sending.{runs}
 
 abbrev pub between : Option (List ℕ) → Option (List ℕ) → Side
@@ -84,7 +85,7 @@ module _ (Made : Bool → List ℕ → Result Unit Stop → List ℕ → Type 0)
   }
 
   wrote : (before middle behind : Option (List ℕ)) (taken put : List ℕ) (t : Encoding) (end : Result Unit Stop) → Consumes before middle front → pumped.Says encode_step encode_last (length front) s (between middle behind) taken put t end
-      → Wrote Made (between before behind) (front ++ taken) put (stopped_by end)
+      → Wrote Made (between before behind) (front ++ taken) put (end_of end)
   wrote before middle behind taken put t (Ok x) c q = (q.0, answered before middle (Ok tt) put c q.1)
   wrote before middle behind taken put t (Err (Refused r)) c q = answered before middle (Err (Refused r)) put c q
   wrote before middle behind taken put t (Err ReadFault) c q = timely taken put q
@@ -92,7 +93,7 @@ module _ (Made : Bool → List ℕ → Result Unit Stop → List ℕ → Type 0)
   wrote before middle behind taken put t (Err TooLong) c q = answered before middle (Err TooLong) put c q
 
   pub does : (before middle behind written later : Option (List ℕ)) (t : Encoding) (end : Result Unit Stop) → Consumes before middle front
-      → pumped.Pumped encode_step encode_last (length front) s t (between middle behind) (between written later) end → Does Made (between before behind) (between written later) (stopped_by end)
+      → pumped.Pumped encode_step encode_last (length front) s t (between middle behind) (between written later) end → Does Made (between before behind) (between written later) (end_of end)
   does before middle behind written later t end c q = record {
     taken = front ++ q.taken;
     put = q.put;

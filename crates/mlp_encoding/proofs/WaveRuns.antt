@@ -30,7 +30,8 @@ use Rattle.mlp_fold.specs.Profile.{checked}
 use Rattle.mlp_encoding.specs.Pcm.{refusing}
 use Rattle.mlp_encoding.specs.Encoding.{Encoding, encoding, encode_step, encode_last}
 use Rattle.mlp_encoding.specs.Encoded.{Encoded}
-use Rattle.mlp_encoding.specs.Encodes.{Answer, Soon, IsTimely, Does, stopped_by}
+use Rattle.mlp_answers.specs.Failures.{end_of}
+use Rattle.mlp_encoding.specs.Encodes.{Answer, Soon, IsTimely, Does}
 use Rattle.mlp_encoding.specs.Wave.{profile_in, WaveEncoded, encoded, unfit, wrong, cut, waits, EncodesWave, header_failure}
 use Rattle.mlp_encoding.proofs.Answered.{made, none_made}
 use Rattle.mlp_encoding.proofs.Doing.{between, Splits, behind_it, in_it, does, stops_at}
@@ -83,7 +84,7 @@ module _ (kind : Kind) (mix : Mix) where
     wanted = profile_in kind mix (format_of info)
 
     pub encodes_pumped : checked wanted ≡ Ok tt → (info.size ≡ 0 → ⊥) → (behind written later : Option (List ℕ)) (s t : Encoding) (end : Result Unit Stop) → s ≡ encoding wanted (Some info.size)
-        → pumped.Pumped encode_step encode_last info.taken s t (between middle behind) (between written later) end → (r : Result Unit Failure) → r ≡ stopped_by end
+        → pumped.Pumped encode_step encode_last info.taken s t (between middle behind) (between written later) end → (r : Result Unit Failure) → r ≡ end_of end
         → EncodesWave kind mix (between before behind) (between written later) r
     encodes_pumped ok some behind written later s t end s_is q r r_is =
         let front = is.0 in

@@ -62,11 +62,6 @@ module _ (Made : Bool → List ℕ → Result Unit Stop → List ℕ → Type 0)
     pub writes : Appends output.before output.behind put
     pub wrote : Wrote input taken put end
 
--- the end of a command, by that of the work on its input
-abbrev pub stopped_by : Result Unit Stop → Result Unit Failure
-stopped_by (Ok _) = Ok tt
-stopped_by (Err stop) = Err (Stopped stop)
-
 -- what stopped the work on the input, if anything did
 abbrev pub stop_of : Result Unit Failure → Result Unit Stop
 stop_of (Ok _) = Ok tt

@@ -5,25 +5,15 @@ ghost use Rattle.mlp_io.specs.Causes.{IsCause};
 ghost use Rattle.mlp_io.specs.Limit.{limit};
 ghost use Rattle.mlp_stream.specs.Sides.{side};
 ghost use Rattle.mlp_stream.specs.Pumped.{is_read_fault, is_write_fault};
-ghost use Rattle.mlp_encoding.specs.Encodes.{EncodesRaw, stop_of, stopped_by};
+ghost use Rattle.mlp_encoding.specs.Encodes.{EncodesRaw, stop_of};
 
 use crate::encode::Encode;
-use mlp_answers::Failure;
+use mlp_answers::{Failure, end_of};
 use mlp_fold::Profile;
 use mlp_io::{Sink, Source};
 use mlp_stream::{Refusal, Stop, pump};
 use mlp_syntax::PcmFault;
 use std::alloc::Global;
-
-/// The end of a command, by that of the work on its input.
-pub fn failure_of(end: Result<(), Stop>) -> Result<(), Failure>
-    ensures { result ≡ stopped_by end }
-{
-    match end {
-        Ok(()) => Ok(()),
-        Err(stop) => Err(Failure::Stopped(stop)),
-    }
-}
 
 /// A fault of the PCM.
 pub fn refused(fault: PcmFault) -> Failure
@@ -59,7 +49,7 @@ pub fn encode_raw<S: Source, K: Sink>(
         Err(fault) => return Err(refused(PcmFault::Profile(fault))),
     }
     match Encode::open(alloc, profile, None) {
-        Ok(mut session) => failure_of(pump(&mut session, 0, input, output)),
+        Ok(mut session) => end_of(pump(&mut session, 0, input, output)),
         Err(_) => Err(Failure::OutOfMemory),
     }
 }

@@ -12,8 +12,8 @@ ghost use Rattle.mlp_encoding.specs.Encoding.{encoding};
 ghost use Rattle.mlp_encoding.specs.Wave.{profile_in, header_failure, EncodesWave};
 
 use crate::encode::Encode;
-use crate::raw::{failure_of, refused};
-use mlp_answers::Failure;
+use crate::raw::refused;
+use mlp_answers::{Failure, end_of};
 use mlp_fold::{Mix, Profile};
 use mlp_io::{Sink, Source};
 use mlp_pcm::{WaveInfo, WaveRefusal, read_wave_header};
@@ -98,5 +98,5 @@ pub fn encode_wave<S: Source, K: Sink>(
     if info.size == 0 {
         return Err(refused(PcmFault::Empty));
     }
-    failure_of(pump(&mut session, info.taken, input, output))
+    end_of(pump(&mut session, info.taken, input, output))
 }

@@ -29,11 +29,11 @@ pub returns-clause-encodes : goal.returns-clause-encodes
 returns-clause-encodes g c =
     encodes_pumped c.args.kind c.args.mix (g.S.Source.left c.args.input.now) (g.S.Source.left c.read_wave_header.new.source) c.in-Ok-read_wave_header.info c.in-Ok-read_wave_header.ensures.ok
     (sym c.in-Ok-begin.ensures.value) c.if-info-eq0.false (g.S.Source.left c.pump.new.input) (g.K.Sink.written c.args.output.now) (g.K.Sink.written c.pump.new.output)
-    c.begin.new.session c.pump.new.session c.pump.result c.in-Ok-begin.ensures.is c.pump.ensures.pumped c.failure_of.result c.failure_of.ensures
+    c.begin.new.session c.pump.new.session c.pump.result c.in-Ok-begin.ensures.is c.pump.ensures.pumped c.end_of.result c.end_of.ensures
 
 pub returns-clause-few : goal.returns-clause-few
 returns-clause-few g c =
-    takes_few (WaveEncoded c.args.kind c.args.mix) (g.S.Source.left c.args.input.now) (g.S.Source.left c.pump.new.input) (g.K.Sink.written c.args.output.now) (g.K.Sink.written c.pump.new.output) c.failure_of.result
+    takes_few (WaveEncoded c.args.kind c.args.mix) (g.S.Source.left c.args.input.now) (g.S.Source.left c.pump.new.input) (g.K.Sink.written c.args.output.now) (g.K.Sink.written c.pump.new.output) c.end_of.result
     (encodes_pumped c.args.kind c.args.mix (g.S.Source.left c.args.input.now) (g.S.Source.left c.read_wave_header.new.source) c.in-Ok-read_wave_header.info c.in-Ok-read_wave_header.ensures.ok
     (sym c.in-Ok-begin.ensures.value) c.if-info-eq0.false (g.S.Source.left c.pump.new.input) (g.K.Sink.written c.args.output.now) (g.K.Sink.written c.pump.new.output)
-    c.begin.new.session c.pump.new.session c.pump.result c.in-Ok-begin.ensures.is c.pump.ensures.pumped c.failure_of.result c.failure_of.ensures)
+    c.begin.new.session c.pump.new.session c.pump.result c.in-Ok-begin.ensures.is c.pump.ensures.pumped c.end_of.result c.end_of.ensures)
