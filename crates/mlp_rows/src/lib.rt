@@ -12,6 +12,8 @@ mod decode_raw;
 #[cfg(test)]
 mod decode_wav;
 #[cfg(test)]
+mod encode;
+#[cfg(test)]
 mod extract;
 #[cfg(test)]
 mod faults;

@@ -1,4 +1,5 @@
 pub mod Numbers
+pub mod Values
 pub mod Words
 pub mod Lines
 pub mod Run

@@ -16,6 +16,8 @@ use Rattle.mlp_answers.specs.Works.{Works}
 use Rattle.mlp_check.specs.Runs.{Checks}
 use Rattle.mlp_cut.specs.Cutting.{cutting}
 use Rattle.mlp_editing.specs.Mended.{Mended}
+use Rattle.mlp_encoding.specs.Encodes.{EncodesRaw}
+use Rattle.mlp_encoding.specs.Wave.{EncodesWave}
 use Rattle.mlp_extract.specs.Extracting.{extracting}
 use Rattle.mlp_retime.specs.Runs.{Retimes}
 use Rattle.mlp_sessions.specs.Listing.{listing}
@@ -38,6 +40,8 @@ Does (Some (command.Check presentation)) input output end = Checks presentation 
 Does (Some (command.Cut first count)) input output end = Did (cutting first count) input output end
 Does (Some (command.Recover presentation)) input output end = Mended presentation input output end
 Does (Some command.Retime) input output end = Retimes input output end
+Does (Some (command.EncodeRaw profile)) input output end = EncodesRaw profile input output end
+Does (Some (command.EncodeWav kind mix)) input output end = EncodesWave kind mix input output end
 
 -- no more bytes were taken than one past the limit
 abbrev pub TakesFew : Side → Type 0

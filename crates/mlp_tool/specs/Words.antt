@@ -1,12 +1,16 @@
 -- The plain forms of the command line: a command, and behind it options with their values, in any order.
 use Rattle.std.specs.Prelude.{◌≡◌, ◌≤◌, ◌⊎◌, ℕ, Bool, true, false, ◌&&◌, if◌then◌else◌, List, [], ◌∷◌, Option, Some, None, is_none, find, codes}
 use Rattle.std.specs.Str.{bytes_eq}
-use Rattle.std.specs.Option.{option_and_then}
+use Rattle.std.specs.Option.{option_and_then, option_map}
+use Rattle.mlp_syntax.specs.declared.major.Kind.{Kind}
+use Rattle.mlp_fold.specs.declared.profile.Mix.{Mix}
+use Rattle.mlp_fold.specs.declared.profile.Profile.{Profile}
 use Rattle.mlp_tool.specs.Numbers.{number_of}
+use Rattle.mlp_tool.specs.Values.{presentation_of, bits_by, kind_of, rate_of, channels_of, depth_of, mix_by}
 use Rattle.mlp_tool.specs.declared.words.Verb.{Verb}
 use Rattle.mlp_tool.specs.declared.words.Verb.TheVariants as verb
 use Rattle.mlp_tool.specs.declared.words.Name.{Name}
-use Rattle.mlp_tool.specs.declared.words.Name.TheVariants.{Presentation, Bits, First, Count}
+use Rattle.mlp_tool.specs.declared.words.Name.TheVariants.{Presentation, Bits, First, Count, Format, Rate, Channels, Mix as Mixed}
 use Rattle.mlp_tool.specs.declared.words.Command.{Command}
 use Rattle.mlp_tool.specs.declared.words.Command.TheVariants as command
 
@@ -20,6 +24,8 @@ verb_of word =
     else if bytes_eq word (codes "cut") then Some verb.Cut
     else if bytes_eq word (codes "recover") then Some verb.Recover
     else if bytes_eq word (codes "retime") then Some verb.Retime
+    else if bytes_eq word (codes "encode-raw") then Some verb.EncodeRaw
+    else if bytes_eq word (codes "encode-wav") then Some verb.EncodeWav
     else None
 
 abbrev pub word_of : Name → List ℕ
@@ -27,6 +33,10 @@ word_of Presentation = codes "--presentation"
 word_of Bits = codes "--bits"
 word_of First = codes "--first"
 word_of Count = codes "--count"
+word_of Format = codes "--format"
+word_of Rate = codes "--rate"
+word_of Channels = codes "--channels"
+word_of Mixed = codes "--mix"
 
 abbrev pub options_of : Verb → List Name
 options_of verb.DecodeRaw = Presentation ∷ Bits ∷ []
@@ -37,6 +47,8 @@ options_of verb.Check = Presentation ∷ []
 options_of verb.Cut = First ∷ Count ∷ []
 options_of verb.Recover = Presentation ∷ []
 options_of verb.Retime = []
+options_of verb.EncodeRaw = Format ∷ Rate ∷ Channels ∷ Bits ∷ Mixed ∷ []
+options_of verb.EncodeWav = Format ∷ Mixed ∷ []
 
 -- the option that a word names, among these
 abbrev pub option_of : List Name → List ℕ → Option Name
@@ -59,26 +71,7 @@ are_options names [] = true
 are_options names (word ∷ []) = false
 are_options names (word ∷ value ∷ words) = is_new (option_of names word) words && are_options names words
 
--- ---- values
-
--- the presentations that can be asked for
-abbrev pub presentation_of : List ℕ → Option ℕ
-presentation_of word =
-    if bytes_eq word (codes "0") then Some 0
-    else if bytes_eq word (codes "1") then Some 1
-    else if bytes_eq word (codes "2") then Some 2
-    else None
-
--- the bits of a sample
-abbrev pub bits_of : List ℕ → Option ℕ
-bits_of word = if bytes_eq word (codes "16") then Some 16 else if bytes_eq word (codes "24") then Some 24 else None
-
--- .. which are 24 where no option names them
-abbrev pub bits_by : Option (List ℕ) → Option ℕ
-bits_by None = Some 24
-bits_by (Some word) = bits_of word
-
--- what the options say
+-- ---- what the options say
 abbrev pub presentation_given : List (List ℕ) → Option ℕ
 presentation_given words = option_and_then presentation_of (value_of Presentation words)
 
@@ -87,6 +80,23 @@ bits_given words = bits_by (value_of Bits words)
 
 abbrev pub number_given : Name → List (List ℕ) → Option ℕ
 number_given name words = option_and_then number_of (value_of name words)
+
+abbrev pub kind_given : List (List ℕ) → Option Kind
+kind_given words = option_and_then kind_of (value_of Format words)
+
+abbrev pub mix_given : List (List ℕ) → Option Mix
+mix_given words = mix_by (value_of Mixed words)
+
+-- a profile by what is said of it
+abbrev pub profile_by : Option Kind → Option ℕ → Option ℕ → Option ℕ → Option Mix → Option Profile
+profile_by (Some kind) (Some rate) (Some channels) (Some depth) (Some mix) =
+    Some (record { kind = kind; rate = rate; channels = channels; depth = depth; mix = mix })
+profile_by kind rate channels depth mix = None
+
+abbrev pub profile_given : List (List ℕ) → Option Profile
+profile_given words =
+    profile_by (kind_given words) (option_and_then rate_of (value_of Rate words))
+    (option_and_then channels_of (value_of Channels words)) (option_and_then depth_of (value_of Bits words)) (mix_given words)
 
 -- ---- commands
 
@@ -99,6 +109,11 @@ abbrev pub by_two : (ℕ → ℕ → Command) → Option ℕ → Option ℕ → 
 by_two command None b = None
 by_two command (Some a) b = by_one (command a) b
 
+-- .. by a format and a mix
+abbrev pub by_format : Option Kind → Option Mix → Option Command
+by_format (Some kind) (Some mix) = Some (command.EncodeWav kind mix)
+by_format kind mix = None
+
 abbrev pub command_of : List (List ℕ) → Verb → Option Command
 command_of words verb.DecodeRaw = by_two command.DecodeRaw (presentation_given words) (bits_given words)
 command_of words verb.DecodeWav = by_two command.DecodeWav (presentation_given words) (bits_given words)
@@ -108,6 +123,8 @@ command_of words verb.Check = by_one command.Check (presentation_given words)
 command_of words verb.Cut = by_two command.Cut (number_given First words) (number_given Count words)
 command_of words verb.Recover = by_one command.Recover (presentation_given words)
 command_of words verb.Retime = Some command.Retime
+command_of words verb.EncodeRaw = option_map command.EncodeRaw (profile_given words)
+command_of words verb.EncodeWav = by_format (kind_given words) (mix_given words)
 
 abbrev pub with_options : List (List ℕ) → Verb → Option Command
 with_options words verb = if are_options (options_of verb) words then command_of words verb else None
@@ -128,6 +145,8 @@ presentation_in (Some (command.Check presentation)) = presentation
 presentation_in (Some (command.Cut first count)) = 0
 presentation_in (Some (command.Recover presentation)) = presentation
 presentation_in (Some command.Retime) = 0
+presentation_in (Some (command.EncodeRaw profile)) = 0
+presentation_in (Some (command.EncodeWav kind mix)) = 0
 
 -- the bits of a sample in what a command writes
 abbrev pub bits_in : Option Command → ℕ

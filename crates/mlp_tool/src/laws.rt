@@ -1,16 +1,23 @@
 //! What holds of inputs.
-ghost use Rattle.std.specs.Prelude.{ℕ, List};
+ghost use Rattle.std.specs.Prelude.{◌≡◌, ℕ, List, None, Ok};
+ghost use Rattle.mlp_syntax.specs.declared.major.Kind.{Kind};
 ghost use Rattle.mlp_answers.specs.Answers.{HasOneAnswer};
 ghost use Rattle.mlp_check.specs.Checking.{checking};
 ghost use Rattle.mlp_cut.specs.Cutting.{cutting};
+ghost use Rattle.mlp_encoding.specs.Encoded.{Encoded};
+ghost use Rattle.mlp_encoding.specs.Encodes.{HasOneAnswer as HasOneStream};
+ghost use Rattle.mlp_encoding.specs.Wave.{WaveEncoded};
 ghost use Rattle.mlp_extract.specs.Extracting.{extracting};
+ghost use Rattle.mlp_fold.specs.declared.profile.Mix.{Mix};
+ghost use Rattle.mlp_fold.specs.declared.profile.Profile.{Profile};
+ghost use Rattle.mlp_fold.specs.Profile.{checked};
 ghost use Rattle.mlp_recover.specs.Laws.{HasOneRecovery};
 ghost use Rattle.mlp_retime.specs.Retiming.{retiming};
 ghost use Rattle.mlp_sessions.specs.Listing.{listing};
 ghost use Rattle.mlp_sessions.specs.Playing.{playing};
 ghost use Rattle.mlp_wave.specs.Saved.{HasOneFile};
 
-/// Each input has one end and one output for each command, and for each presentation: so the answer of a run comes exactly
+/// Each input has one end and one output for each command, and for each presentation, profile, format and mix: so the answer of a run comes exactly
 /// where its relation holds.
 pub fn law_one_answer()
     ensures decode_raw { (k bits : ℕ) (all : List ℕ) → HasOneAnswer (playing k bits) all }
@@ -21,4 +28,6 @@ pub fn law_one_answer()
     ensures cut { (f c : ℕ) (all : List ℕ) → HasOneAnswer (cutting f c) all }
     ensures recover { (k : ℕ) (all : List ℕ) → HasOneRecovery k all }
     ensures retime { (all : List ℕ) → HasOneAnswer retiming all }
+    ensures encode_raw { (p : Profile) → checked p ≡ Ok tt → (all : List ℕ) → HasOneStream (Encoded p None) all }
+    ensures encode_wav { (kind : Kind) (mix : Mix) (all : List ℕ) → HasOneStream (WaveEncoded kind mix) all }
 {}

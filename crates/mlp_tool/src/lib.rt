@@ -5,6 +5,7 @@ pub mod laws;
 mod line;
 mod numbers;
 mod top;
+mod values;
 mod words;
 
 pub use line::{Line, line_of, status_of};

@@ -20,6 +20,7 @@ use mlp_answers::{Failure, end_of};
 use mlp_check::Check;
 use mlp_cut::Cutter;
 use mlp_editing::recover_input;
+use mlp_encoding::{encode_raw, encode_wave};
 use mlp_extract::Extractor;
 use mlp_io::{Sink, Source, put_all};
 use mlp_retime::Retimer;
@@ -160,6 +161,8 @@ fn work<S: Source, K: Sink>(
             recover_input(alloc, *presentation, input, output)
         }
         Some(Command::Retime) => retime(alloc, input, output),
+        Some(Command::EncodeRaw { profile }) => encode_raw(alloc, *profile, input, output),
+        Some(Command::EncodeWav { kind, mix }) => encode_wave(alloc, *kind, *mix, input, output),
     }
 }
 
@@ -176,6 +179,7 @@ fn presentation_in(command: &Option<Command>) -> u8
 {
     match command {
         None | Some(Command::List | Command::Cut { .. } | Command::Retime) => 0,
+        Some(Command::EncodeRaw { .. } | Command::EncodeWav { .. }) => 0,
         Some(Command::DecodeRaw { presentation, .. }) => *presentation,
         Some(Command::DecodeWav { presentation, .. }) => *presentation,
         Some(Command::Extract { presentation }) => *presentation,
@@ -186,8 +190,8 @@ fn presentation_in(command: &Option<Command>) -> u8
 
 /// Runs the words over an input and an output, tells the line of the end to `errors`, and answers its status.
 ///
-/// `check` and `retime` take memory from `alloc` before they read, `decode-wav` for the samples and `recover` for the input;
-/// no other command does. A run takes at most one byte more than 2^40 from the input.
+/// `check`, `retime`, `encode-raw` and `encode-wav` take memory from `alloc` before they read, `decode-wav` for the samples
+/// and `recover` for the input; no other command does. A run takes at most one byte more than 2^40 from the input.
 ///
 /// # Errors
 ///

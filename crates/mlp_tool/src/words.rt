@@ -2,9 +2,12 @@
 ghost use Rattle.std.specs.Prelude.{◌≡◌, ◌≤◌, ◌⊎◌, map, string_bytes, length, IfSome};
 ghost use Rattle.std.specs.Option.{option_map};
 ghost use Rattle.mlp_io.specs.Limit.{limit};
-ghost use Rattle.mlp_tool.specs.Words.{verb_of, word_of, options_of, option_of, value_of, are_options, presentation_of, bits_of, presentation_given, bits_given, number_given, command_of, with_options, plain, IsKnown};
+ghost use Rattle.mlp_tool.specs.Words.{verb_of, word_of, options_of, option_of, value_of, are_options, presentation_given, bits_given, number_given, kind_given, mix_given, profile_given, command_of, with_options, plain, IsKnown};
 
 use crate::numbers::number_of;
+use crate::values::{bits_of, channels_of, depth_of, kind_of, mix_of, presentation_of, rate_of};
+use mlp_fold::{Mix, Profile};
+use mlp_syntax::Kind;
 
 /// The command's name.
 #[derive(Clone, Copy, Debug, PartialEq, Eq)]
@@ -17,6 +20,8 @@ pub enum Verb {
     Cut,
     Recover,
     Retime,
+    EncodeRaw,
+    EncodeWav,
 }
 
 /// An option's name.
@@ -26,6 +31,10 @@ pub enum Name {
     Bits,
     First,
     Count,
+    Format,
+    Rate,
+    Channels,
+    Mix,
 }
 
 /// A command and its options.
@@ -47,6 +56,10 @@ pub enum Command {
     Recover { presentation: u8 },
     /// Write the stream with the timings of the earliest schedule.
     Retime,
+    /// Write the stream of raw PCM of a profile.
+    EncodeRaw { profile: Profile },
+    /// Write the stream of a WAVE file's PCM.
+    EncodeWav { kind: Kind, mix: Mix },
 }
 
 fn verb_of(word: &str) -> Option<Verb>
@@ -61,6 +74,8 @@ fn verb_of(word: &str) -> Option<Verb>
         "cut" => Some(Verb::Cut),
         "recover" => Some(Verb::Recover),
         "retime" => Some(Verb::Retime),
+        "encode-raw" => Some(Verb::EncodeRaw),
+        "encode-wav" => Some(Verb::EncodeWav),
         _ => None,
     }
 }
@@ -73,6 +88,10 @@ fn word_of(name: Name) -> &'static str
         Name::Bits => "--bits",
         Name::First => "--first",
         Name::Count => "--count",
+        Name::Format => "--format",
+        Name::Rate => "--rate",
+        Name::Channels => "--channels",
+        Name::Mix => "--mix",
     }
 }
 
@@ -85,6 +104,14 @@ fn options_of(verb: Verb) -> &'static [Name]
         Verb::Extract | Verb::Check | Verb::Recover => &[Name::Presentation],
         Verb::List | Verb::Retime => &[],
         Verb::Cut => &[Name::First, Name::Count],
+        Verb::EncodeRaw => &[
+            Name::Format,
+            Name::Rate,
+            Name::Channels,
+            Name::Bits,
+            Name::Mix,
+        ],
+        Verb::EncodeWav => &[Name::Format, Name::Mix],
     }
 }
 
@@ -131,31 +158,6 @@ fn are_options(names: &[Name], words: &[String]) -> bool
     }
 }
 
-/// The presentation that a word names.
-fn presentation_of(word: &str) -> Option<u8>
-    ensures form { result ≡ presentation_of word.now }
-    ensures small { IfSome result (λ k. k ≤ 2) }
-{
-    match word {
-        "0" => Some(0),
-        "1" => Some(1),
-        "2" => Some(2),
-        _ => None,
-    }
-}
-
-/// The bits of a sample that a word names.
-fn bits_of(word: &str) -> Option<u8>
-    ensures form { result ≡ bits_of word.now }
-    ensures known { IfSome result (λ bits. (bits ≡ 16) ⊎ (bits ≡ 24)) }
-{
-    match word {
-        "16" => Some(16),
-        "24" => Some(24),
-        _ => None,
-    }
-}
-
 /// The presentation that an option names.
 fn presentation_given(words: &[String]) -> Option<u8>
     ensures form { result ≡ presentation_given (map string_bytes words.now) }
@@ -180,6 +182,41 @@ fn number_given(name: Name, words: &[String]) -> Option<u64>
     ensures { result ≡ number_given name (map string_bytes words.now) }
 {
     number_of(value_of(name, words)?)
+}
+
+/// The format that an option names.
+fn kind_given(words: &[String]) -> Option<Kind>
+    ensures { result ≡ kind_given (map string_bytes words.now) }
+{
+    kind_of(value_of(Name::Format, words)?)
+}
+
+/// The mix that an option names, each channel by itself where none does.
+fn mix_given(words: &[String]) -> Option<Mix>
+    ensures { result ≡ mix_given (map string_bytes words.now) }
+{
+    match value_of(Name::Mix, words) {
+        None => Some(Mix::Split),
+        Some(word) => mix_of(word),
+    }
+}
+
+/// The profile that options name, which may be one that can't be encoded.
+fn profile_given(words: &[String]) -> Option<Profile>
+    ensures { result ≡ profile_given (map string_bytes words.now) }
+{
+    let kind = kind_given(words)?;
+    let rate = rate_of(value_of(Name::Rate, words)?)?;
+    let channels = channels_of(value_of(Name::Channels, words)?)?;
+    let depth = depth_of(value_of(Name::Bits, words)?)?;
+    let mix = mix_given(words)?;
+    Some(Profile {
+        kind,
+        rate,
+        channels,
+        depth,
+        mix,
+    })
 }
 
 /// The command of this name with these options.
@@ -217,6 +254,15 @@ fn command_of(words: &[String], verb: Verb) -> Option<Command>
             Some(Command::Recover { presentation })
         }
         Verb::Retime => Some(Command::Retime),
+        Verb::EncodeRaw => {
+            let profile = profile_given(words)?;
+            Some(Command::EncodeRaw { profile })
+        }
+        Verb::EncodeWav => {
+            let kind = kind_given(words)?;
+            let mix = mix_given(words)?;
+            Some(Command::EncodeWav { kind, mix })
+        }
     }
 }
 

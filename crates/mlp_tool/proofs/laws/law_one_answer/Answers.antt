@@ -3,6 +3,7 @@ use Rattle.mlp_check.specs.Checking.{checking}
 use Rattle.mlp_check.proofs.Reports.{checking_is}
 use Rattle.mlp_cut.specs.Cutting.{cutting}
 use Rattle.mlp_cut.proofs.CutterLaws.{cutting_is}
+use Rattle.mlp_encoded.proofs.OneAnswer.{one_raw, one_wave}
 use Rattle.mlp_extract.specs.Extracting.{extracting}
 use Rattle.mlp_extract.proofs.ExtractFollows.{extracting_is}
 use Rattle.mlp_recover.proofs.Pieces.{one_recovery}
@@ -37,3 +38,9 @@ returns-clause-recover c = λ k all. record { some = some_recovery k all; one = 
 
 pub returns-clause-retime : goal.returns-clause-retime
 returns-clause-retime c = λ all. has_one_answer retiming retiming_is all
+
+pub returns-clause-encode_raw : goal.returns-clause-encode_raw
+returns-clause-encode_raw c = one_raw
+
+pub returns-clause-encode_wav : goal.returns-clause-encode_wav
+returns-clause-encode_wav c = one_wave

@@ -1,0 +1,5 @@
+pub mod Parts
+pub mod Whole
+pub mod Top
+pub mod Keeping
+pub mod Running

@@ -1,0 +1,161 @@
+//! The commands that encode.
+use crate::decode_wav::SILENCE;
+use crate::runs::{Edge, WHOLE, run_over};
+use crate::streams::{ENDED, RAMPS, ramp_samples};
+use std::alloc::{AllocError, Global};
+use std::test::Fail;
+
+const WORDS: &str = "encode-raw --format truehd --rate 48000 --channels 2 --bits 24";
+
+/// One silent unit, which isn't the last.
+const GOING_ON: [u8; 60] = [
+    0xF0, 0x1E, 0x00, 0x00, 0xF8, 0x72, 0x6F, 0xBA, 0x00, 0x00, 0x80, 0x01, 0xB7, 0x52, 0x00, 0x00,
+    0x00, 0x00, 0x97, 0x6F, 0x10, 0x00, 0x00, 0x00, 0x00, 0x00, 0x00, 0x00, 0x00, 0x00, 0x64, 0x21,
+    0x20, 0x0D, 0xF1, 0xEA, 0x0E, 0x10, 0x01, 0x10, 0x00, 0x00, 0x00, 0x00, 0x00, 0x00, 0x00, 0x00,
+    0x00, 0x03, 0x98, 0x08, 0x01, 0x00, 0x12, 0x20, 0x04, 0x00, 0x19, 0x72,
+];
+
+#[test]
+fn encodes_pcm_in_any_pieces(rt: HostRuntime) -> Result<(), Fail> {
+    let alloc = rt.alloc();
+    let ramps = ramp_samples(alloc)?;
+    for piece in [1, 2, 7, 8190] {
+        let edge = Edge { piece, ..WHOLE };
+        let seen = run_over(alloc, WORDS, &ramps, &edge)?;
+        assert_eq!(rt; seen.status, 0, "by {piece}");
+        assert_eq!(rt; seen.output.as_slice(), RAMPS.as_slice(), "by {piece}");
+        assert_eq!(rt; seen.line.len(), 0, "by {piece}");
+    }
+    let one = run_over(alloc, WORDS, &[0; 6], &WHOLE)?;
+    assert_eq!(rt; one.status, 0);
+    assert_eq!(rt; one.output.as_slice(), ENDED.as_slice());
+    let file = run_over(alloc, "encode-wav --format truehd", &SILENCE, &WHOLE)?;
+    assert_eq!(rt; file.status, 0);
+    assert_eq!(rt; file.output.as_slice(), ENDED.as_slice());
+    Ok(())
+}
+
+/// Each with the line, and how much is written of the one silent unit.
+#[test]
+fn refuses_pcm_by_name(rt: HostRuntime) -> Result<(), Fail> {
+    let silence = [0; 241];
+    let low = [0x11, 0, 0, 0, 0, 0];
+    let twenty = "encode-raw --format truehd --rate 192000 --channels 2 --bits 20";
+    let mlp = "encode-raw --format mlp --rate 48000 --channels 2 --bits 24";
+    let cases: [(&str, &[u8], &str, usize); 5] = [
+        (WORDS, &[], "pcm refused: Empty\n", 0),
+        (WORDS, &silence[..7], "pcm refused: PartialFrame\n", 0),
+        (mlp, &silence[..6], "pcm refused: PartialUnit\n", 0),
+        (twenty, &low, "pcm refused: PadBits 0\n", 0),
+        (WORDS, &silence, "pcm refused: PartialFrame\n", 60),
+    ];
+    for (words, pcm, line, written) in cases {
+        let seen = run_over(rt.alloc(), words, pcm, &WHOLE)?;
+        assert_eq!(rt; seen.status, 3, "of {line}");
+        assert_eq!(rt; seen.output.as_slice(), &GOING_ON[..written], "of {line}");
+        assert_eq!(rt; seen.line.as_slice(), line.as_bytes());
+    }
+    Ok(())
+}
+
+/// Nothing is read, so that a read that would fail doesn't matter.
+#[test]
+fn refuses_a_profile_before_it_reads(rt: HostRuntime) -> Result<(), Fail> {
+    let edge = Edge {
+        read_fails: &[0],
+        ..WHOLE
+    };
+    let cases = [
+        (
+            "encode-raw --format mlp --rate 48000 --channels 8 --bits 24",
+            "pcm refused: Channels\n",
+        ),
+        (
+            "encode-raw --format truehd --rate 192000 --channels 8 --bits 24",
+            "pcm refused: Rate\n",
+        ),
+        (
+            "encode-raw --format truehd --rate 48000 --channels 6 --bits 16 --mix bypass",
+            "pcm refused: MixShape\n",
+        ),
+    ];
+    for (words, line) in cases {
+        let seen = run_over(rt.alloc(), words, &[0; 6], &edge)?;
+        assert_eq!(rt; seen.status, 3, "of {words}");
+        assert_eq!(rt; seen.output.len(), 0, "of {words}");
+        assert_eq!(rt; seen.line.as_slice(), line.as_bytes());
+    }
+    let read = run_over(rt.alloc(), WORDS, &[0; 6], &edge)?;
+    assert_eq!(rt; read.status, 5);
+    Ok(())
+}
+
+/// Each with a byte of the file that is changed, and how many of its bytes are left.
+#[test]
+fn refuses_a_header_by_its_field(rt: HostRuntime) -> Result<(), Fail> {
+    let cases = [
+        (0, 0x52, 11, "pcm refused: WaveHeader Riff\n"),
+        (0, 0x52, 43, "pcm refused: WaveHeader Chunk\n"),
+        (12, 0x67, 74, "pcm refused: WaveHeader FmtMissing\n"),
+        (16, 0x26, 74, "pcm refused: WaveHeader FmtSize\n"),
+        (44, 0x03, 74, "pcm refused: WaveHeader Tag\n"),
+        (34, 0x21, 74, "pcm refused: WaveHeader Bits\n"),
+        (32, 0x07, 74, "pcm refused: WaveHeader Align\n"),
+        (38, 0x11, 74, "pcm refused: Depth\n"),
+        (24, 0x81, 74, "pcm refused: Rate\n"),
+        (0, 0x52, 68, "pcm refused: Empty\n"),
+        (0, 0x52, 70, "pcm refused: PartialFrame\n"),
+    ];
+    for (place, byte, length, line) in cases {
+        let mut file = SILENCE;
+        file[place] = byte;
+        let words = "encode-wav --format truehd";
+        let seen = run_over(rt.alloc(), words, &file[..length], &WHOLE)?;
+        assert_eq!(rt; seen.status, 3, "of {line}");
+        assert_eq!(rt; seen.output.len(), 0, "of {line}");
+        assert_eq!(rt; seen.line.as_slice(), line.as_bytes());
+    }
+    Ok(())
+}
+
+/// So many bytes of noise in samples of 24 bits, by a generator of 32 bits.
+fn noise(alloc: Global, samples: usize) -> Result<Vec<u8>, AllocError> {
+    let mut pcm = Vec::new(alloc);
+    let mut state: u32 = 1;
+    for _ in 0..samples {
+        state = state.wrapping_mul(1_664_525).wrapping_add(1_013_904_223);
+        let bytes = ((state >> 8) ^ 0x80_0000).to_le_bytes();
+        pcm.extend_from_slice(&bytes[..3])?;
+    }
+    Ok(pcm)
+}
+
+/// Noise in six channels is more than either format carries at these rates, so in the end a unit has no place.
+#[test]
+fn refuses_a_unit_without_a_place(rt: HostRuntime) -> Result<(), Fail> {
+    let alloc = rt.alloc();
+    let pcm = noise(alloc, 192_000)?;
+    let edge = Edge {
+        room: 400_000,
+        ..WHOLE
+    };
+    let cases = [
+        (
+            "encode-raw --format mlp --rate 96000 --channels 6 --bits 24",
+            276_072,
+            "no schedule: unit 189, 1456 bytes\n",
+        ),
+        (
+            "encode-raw --format truehd --rate 192000 --channels 6 --bits 24 --mix bypass",
+            327_948,
+            "no schedule: unit 113, 2900 bytes\n",
+        ),
+    ];
+    for (words, length, line) in cases {
+        let seen = run_over(alloc, words, &pcm, &edge)?;
+        assert_eq!(rt; seen.status, 4, "of {words}");
+        assert_eq!(rt; seen.output.len(), length, "of {words}");
+        assert_eq!(rt; seen.line.as_slice(), line.as_bytes());
+    }
+    Ok(())
+}
