@@ -127,7 +127,7 @@ packable : (c : ℕ) (rows : List (List ℤ)) → IsTrue (list_all (is_packable 
 packable c [] = refl
 packable c (row ∷ rows) = ap (λ (b : Bool). b && list_all (is_packable 24 c) rows) (clear_row (take c row)) ∙ packable c rows
 
-none_low : (c : ℕ) (rows : List (List ℤ)) → first_low 24 c rows ≡ None
+pub none_low : (c : ℕ) (rows : List (List ℤ)) → first_low 24 c rows ≡ None
 none_low c rows = (first_failing_is (is_packable 24 c) rows).none.1 (packable c rows)
 
 -- ---- frames of units

@@ -25,3 +25,4 @@ pub mod Starts
 pub mod Lengths
 pub mod Owed
 pub mod Rooms
+pub mod Next

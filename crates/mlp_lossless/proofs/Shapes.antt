@@ -63,7 +63,7 @@ presentation p j h lt = of_channels (λ c. j < substreams_of c → IsPresentatio
 
 -- ---- mixes
 
-eight_at_most : (p : Profile) → Passes p → p.channels ≤ 8
+pub eight_at_most : (p : Profile) → Passes p → p.channels ≤ 8
 eight_at_most p h = of_channels (λ c. c ≤ 8) (omega arith) (omega arith) (omega arith) p.kind p.channels h.channels
 
 record IsDepth (depth : ℕ) : Type 0 where

@@ -160,7 +160,7 @@ module _ (j : ℕ) (e : Going) (d : Decoded) (frames : List (List ℤ)) (last : 
 
   -- ---- where it stands
 
-  same_sync : in_force d.sync (major_of e) ≡ Some (sync_of e.profile)
+  pub same_sync : in_force d.sync (major_of e) ≡ Some (sync_of e.profile)
   same_sync = ap (λ (o : Option MajorSync). in_force o (major_of e)) h.sync ∙ pick (n == 0) refl
     where
       pick : (t : Bool) → (e.units == 0) ≡ t → in_force (if t then None else Some (sync_of e.profile)) (if has_sync e.units then Some (sync_of e.profile) else None) ≡ Some (sync_of e.profile)

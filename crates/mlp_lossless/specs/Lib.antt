@@ -4,3 +4,4 @@ pub mod Timings
 pub mod Lossless
 pub mod Rooms
 pub mod Chosen
+pub mod Next

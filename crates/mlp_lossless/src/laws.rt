@@ -10,6 +10,7 @@ ghost use Rattle.mlp_lossless.specs.Streams.{all_frames};
 ghost use Rattle.mlp_lossless.specs.Following.{Follows};
 ghost use Rattle.mlp_lossless.specs.Lossless.{GivesBack, ArrivesEarliest, ArrivesInTime, EachSent};
 ghost use Rattle.mlp_lossless.specs.Chosen.{IsChosenStream};
+ghost use Rattle.mlp_lossless.specs.Next.{EachFollowed, EachAdded};
 ghost use Rattle.mlp_lossless.specs.Rooms.{WholeHasRoom, BegunHasRoom, WholeStops, BegunStops};
 
 /// The bytes that are sent of PCM, where each unit has a place in time, are a stream of each presentation of the
@@ -51,4 +52,11 @@ pub fn law_single_rates()
 pub fn law_refusal()
     ensures whole { WholeStops }
     ensures begun { BegunStops }
+{}
+
+/// The next unit that is sent is the next one of each decoder that follows. It gives what its presentation shows of the
+/// frames, and unless the unit is the last the decoder follows on.
+pub fn law_follows()
+    ensures followed { EachFollowed }
+    ensures added { EachAdded }
 {}

@@ -1,0 +1,6 @@
+pub mod Samples
+pub mod UnitFrames
+pub mod Taking
+pub mod Playing
+pub mod Underway
+pub mod Ends

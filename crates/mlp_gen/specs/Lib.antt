@@ -1,0 +1,4 @@
+pub mod Generator
+pub mod Player
+pub mod Report
+pub mod Generated
