@@ -1,5 +1,5 @@
 -- How the command ends.
-use Rattle.std.proofs.Common.{◌≡◌, ◌↔◌, ℕ, List, take, true, false, inl, inr, OnOk, IfErr, IsErrOf, Result, Ok, Err, refl, sym, ap, ◌∙◌, subst}
+use Rattle.std.proofs.Common.{◌≡◌, ◌↔◌, ℕ, List, inl, OnOk, IfErr, IsErrOf, Result, Ok, Err, refl, sym, subst}
 use Rattle.std.specs.Io.KnownBytes.{Appends}
 use Rattle.mlp_io.specs.Causes.{HasCause, IsCause}
 use Rattle.mlp_syntax.specs.declared.refusal.ProfileFault.{ProfileFault}

@@ -1,19 +1,17 @@
 -- A player takes each unit that is sent.
-use Rattle.std.proofs.Common.{◌≡◌, ℕ, zero, suc, ◌+◌, ◌*◌, ◌/◌, ◌%◌, ◌^◌, ◌<◌, ◌≤◌, List, [], ◌∷◌, ◌++◌, map, length, drop, ℤ, Bool, true, false, Option, Some, None, Result, Ok, Err, refl, sym, ap, ◌∙◌, subst, arith}
+use Rattle.std.proofs.Common.{◌≡◌, ℕ, ◌+◌, ◌/◌, ◌%◌, ◌^◌, ◌<◌, ◌≤◌, List, [], ◌∷◌, ◌++◌, map, length, drop, ℤ, Bool, false, Option, Some, None, Ok, refl, sym, ap, ◌∙◌, subst, arith}
 use Rattle.std.specs.Prelude.{min, sum, IsOk, IfOk, ◌==◌, if◌then◌else◌}
 use Rattle.std.proofs.lemmas.Bool.{ne_eqb}
 use Rattle.std.proofs.lemmas.List.Sums.{sum_by-append}
-use Rattle.std.specs.List.{flat_map}
 use Rattle.std.proofs.lemmas.List.{append-nil, length-append, length-map, map-append, drop_all}
 use Rattle.std.proofs.lemmas.List.Concat.{flat_map-append}
 use Rattle.mlp_bits.specs.Bits.{bits_of}
 use Rattle.mlp_bits.proofs.Words.{bits_of-append}
 use Rattle.mlp_layout.specs.Streams.{IsNext, Has, Begins, spelling_of, rest_of, left_after}
 use Rattle.mlp_layout.proofs.StreamLaws.{one_has, begins_more, begins_with_more, begins_one}
-use Rattle.mlp_syntax.specs.declared.segment.Segment.{Segment}
-use Rattle.mlp_unit.specs.AccessUnit.{AccessUnit, in_force, substreams_of as told}
+use Rattle.mlp_unit.specs.AccessUnit.{in_force, substreams_of as told}
 use Rattle.mlp_walk.specs.declared.refusal.Refusal.{Refusal}
-use Rattle.mlp_walk.specs.Next.{Taken, asked, next_of}
+use Rattle.mlp_walk.specs.Next.{asked, next_of}
 use Rattle.mlp_walk.proofs.NextLaws.{next_found}
 use Rattle.mlp_pcm.specs.Samples.{packed, row_bytes}
 use Rattle.mlp_contents.specs.Units.{Unit_of, start, whole, frames_out, after}
@@ -28,7 +26,7 @@ use Rattle.mlp_present.specs.Laws.{HoldsUnits}
 use Rattle.mlp_present.proofs.Histories.{holds_units, goes_on}
 use Rattle.mlp_encode.specs.Numbers.{low_zeros}
 use Rattle.mlp_encode.specs.Sync.{sync_of}
-use Rattle.mlp_encode.specs.Left.{Going, Left}
+use Rattle.mlp_encode.specs.Left.{Left}
 use Rattle.mlp_lossless.specs.Following.{Follows}
 use Rattle.mlp_lossless.specs.Next.{IsFollowed}
 use Rattle.mlp_extract.specs.Extract.{extract, extracted_bytes}

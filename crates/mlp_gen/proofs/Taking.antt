@@ -1,5 +1,5 @@
 -- What a player does with a unit.
-use Rattle.std.proofs.Common.{◌≡◌, ℕ, ◌+◌, ◌*◌, ◌%◌, ◌^◌, ◌<◌, ◌≤◌, List, [], length, take, ℤ, true, false, Option, Some, None, Result, Ok, Err, refl, sym, ap, ◌∙◌, subst, arith}
+use Rattle.std.proofs.Common.{◌≡◌, ℕ, ◌+◌, ◌*◌, ◌%◌, ◌^◌, ◌≤◌, List, [], length, take, ℤ, true, false, Option, Some, None, Result, Ok, Err, refl, sym, ap, ◌∙◌, subst, arith}
 use Rattle.std.specs.Prelude.{sum, IsOk, IfOk, MatchResult}
 use Rattle.mlp_unit.specs.Shape.{unit_with}
 use Rattle.mlp_walk.specs.declared.refusal.Refusal.{Refusal as Declined}
@@ -14,7 +14,7 @@ use Rattle.mlp_present.specs.Decoding.{Held, next_unit, after_unit, GivesUnit}
 use Rattle.mlp_extract.specs.Extract.{extracted_bytes}
 use Rattle.mlp_extract.specs.Extractor.{extract_step}
 use Rattle.mlp_extract.proofs.ExtractSteps.{extract_taken}
-use Rattle.mlp_gen.specs.Player.{Played, sum_with, after_played, CanTake, Took, IsPlaying}
+use Rattle.mlp_gen.specs.Player.{Played, sum_with, after_played, Took, IsPlaying}
 
 -- ---- the decoder
 
@@ -22,10 +22,11 @@ pub record Gave (held : Held) (bytes : List ℕ) (frames : List (List ℤ)) (new
   pub size : ℕ
   pub gives : GivesUnit held bytes size frames new
 
-pub gave : (held new : Held) (bytes : List ℕ) (frames : List (List ℤ)) (r : Result ℕ Declined) → IsOk (next_unit held bytes)
-    → MatchResult r (λ size. GivesUnit held bytes size frames new) (λ refusal. next_unit held bytes ≡ Err refusal) → Gave held bytes frames new
-gave held new bytes frames (Ok size) is g = record { size = size; gives = g }
-gave held new bytes frames (Err e) is g = absurd (let z : false ≡ true = subst (λ (r : Next). IsOk r) g is in cc)
+pub gave : (held same new : Held) (bytes : List ℕ) (frames : List (List ℤ)) (r : Result ℕ Declined) → IsOk (next_unit held bytes) → same ≡ held
+    → MatchResult r (λ size. GivesUnit same bytes size frames new) (λ refusal. next_unit same bytes ≡ Err refusal) → Gave held bytes frames new
+gave held same new bytes frames (Ok size) is e g = record { size = size; gives = subst (λ (h : Held). GivesUnit h bytes size frames new) e g }
+gave held same new bytes frames (Err refusal) is e g =
+    absurd (let z : false ≡ true = subst (λ (r : Next). IsOk r) (ap (λ (h : Held). next_unit h bytes) (sym e) ∙ g) is in cc)
 
 -- ---- the bytes of the samples
 

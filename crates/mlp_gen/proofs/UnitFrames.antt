@@ -1,6 +1,6 @@
 -- The units of the generator can be sent.
-use Rattle.std.proofs.Common.{◌≡◌, ℕ, zero, suc, ◌+◌, ◌-◌, ◌*◌, ◌<◌, ◌≤◌, List, [], ◌∷◌, ◌++◌, map, length, get_or, ℤ, Bool, true, false, Ok, refl, sym, ap, ◌∙◌, subst, arith, append_assoc, suc-mul}
-use Rattle.std.specs.Prelude.{All, nat_le, ◌==◌, if◌then◌else◌}
+use Rattle.std.proofs.Common.{◌≡◌, ℕ, zero, suc, ◌+◌, ◌*◌, ◌<◌, List, [], ◌∷◌, ◌++◌, map, length, get_or, ℤ, Bool, true, false, Ok, sym, ap, ◌∙◌, arith, append_assoc, suc-mul}
+use Rattle.std.specs.Prelude.{nat_le, ◌==◌, if◌then◌else◌}
 use Rattle.std.specs.List.{range_with_len}
 use Rattle.std.proofs.lemmas.List.{append-nil, length-append, map-append}
 use Rattle.std.proofs.lemmas.List.Elements.{All-map, All-from_get_or}

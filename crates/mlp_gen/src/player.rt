@@ -25,12 +25,13 @@ fn add_bytes(so_far: u32, bytes: &[u8]) -> u32
     total
 }
 
-/// A decoder and an extractor of a presentation, which take the same units. All that they keep has a fixed size.
+/// A decoder and an extractor of a presentation, which take the same units. All that they keep has a fixed size,
+/// some 1.2 MB, and is taken when they are opened.
 #[derive(Drop)]
 pub struct Player {
     presentation: u8,
-    decoder: Decoder,
-    extractor: Extractor,
+    decoder: Box<Decoder>,
+    extractor: Box<Extractor>,
     frames: ArrayVec<[i32; 8], 160>,
     bytes: UnitBytes,
     given: u64,
@@ -43,27 +44,33 @@ impl Model for Player {
 
     ghost Value = { Played };
 
-    ghost view = { λ s. record { held = s.decoder; frames = s.given; sum = s.sum; extracted = s.extracted } };
+    ghost view = { λ s. record { held = s.decoder.value; frames = s.given; sum = s.sum; extracted = s.extracted } };
 
-    ghost invariant = { λ s. IsPlaying s.presentation s.decoder s.extractor s.given s.extracted };
+    ghost invariant = { λ s. IsPlaying s.presentation s.decoder.value s.extractor.value s.given s.extracted };
 }
 
 impl Player {
     /// A player of presentation `k`, 0 to 2, that has taken no unit.
-    pub fn open(k: u8) -> Player
+    ///
+    /// # Errors
+    ///
+    /// `Memory` where there is none for it.
+    pub fn open(alloc: Global, k: u8) -> Result<Player, Memory>
         requires { k ≤ 2 }
-        ensures { result ≡ unplayed k }
+        ensures { IfOk result (λ player. player ≡ unplayed k) }
     {
-        Player {
+        let decoder = Box::new(alloc, Decoder::open(k)).map_err(|_| Memory)?;
+        let extractor = Box::new(alloc, Extractor::open(k)).map_err(|_| Memory)?;
+        Ok(Player {
             presentation: k,
-            decoder: Decoder::open(k),
-            extractor: Extractor::open(k),
+            decoder,
+            extractor,
             frames: ArrayVec::new(),
             bytes: ArrayVec::new(),
             given: 0,
             sum: 0,
             extracted: 0,
-        }
+        })
     }
 
     /// Decodes and extracts the unit that the bytes begin with.
@@ -103,7 +110,8 @@ pub fn open_players(alloc: Global, count: u8) -> Result<Vec<Player>, Memory>
 {
     let mut players = Vec::new(alloc);
     for k in 0..count {
-        players.push(Player::open(k)).map_err(|_| Memory)?;
+        let player = Player::open(alloc, k)?;
+        players.push(player).map_err(|_| Memory)?;
     }
     Ok(players)
 }

@@ -1,9 +1,9 @@
-use Rattle.std.proofs.Common.{◌≡◌, ◌∙◌, zero, suc, ◌+◌, ◌-◌, ◌++◌, ◌<◌, ℕ, List, length, drop, set, map, replicate, ℤ, pos, w32, to_z, of_z, refl, sym, ap, arith}
+use Rattle.std.proofs.Common.{◌≡◌, ◌∙◌, ◌+◌, ◌-◌, ◌++◌, ◌<◌, ℕ, List, length, drop, set, map, ℤ, pos, w32, to_z, of_z, refl, sym, ap, arith}
 use Rattle.std.specs.List.{range_with_len}
 use Rattle.std.proofs.lemmas.Int.{to_z-of_z}
 use Rattle.std.proofs.lemmas.List.{drop-replicate, length-set}
 use Rattle.mlp_encode.proofs.Lists.{range_put}
-use Rattle.mlp_gen.specs.Generator.{next_state, state_after, sample, frame_from}
+use Rattle.mlp_gen.specs.Generator.{next_state, state_after, sample}
 use Rattle.mlp_gen.proofs.Samples.{state_next}
 use Rattle.mlp_gen.proofs.generator.make_frame.Goals as goal
 

@@ -1,4 +1,4 @@
-use Rattle.std.proofs.Common.{◌≡◌, ◌+◌, ◌-◌, ◌++◌, ℕ, length, drop, map}
+use Rattle.std.proofs.Common.{◌≡◌, ◌+◌, ◌++◌, ℕ, length, drop, map}
 use Rattle.std.specs.List.{range_with_len}
 use Rattle.mlp_gen.specs.Generator.{state_after, sample}
 use Rattle.mlp_gen.proofs.generator.make_frame.Given as goal

@@ -1,4 +1,4 @@
-use Rattle.std.proofs.Common.{◌≡◌, ◌∙◌, FitsSigned, w32, w64, to_z, of_z, sym, ap, subst}
+use Rattle.std.proofs.Common.{◌∙◌, FitsSigned, w32, w64, to_z, of_z, sym, ap, subst}
 use Rattle.std.proofs.lemmas.Int.{to_z-of_z}
 use Rattle.mlp_arith.specs.Words.{clear}
 use Rattle.mlp_gen.proofs.Samples.{clear_fits}

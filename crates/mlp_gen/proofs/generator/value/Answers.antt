@@ -1,4 +1,4 @@
-use Rattle.std.proofs.Common.{◌≡◌, ◌∙◌, ◌+ℤ◌, ◌*ℤ◌, ℤ, pos, ap, arith}
+use Rattle.std.proofs.Common.{◌∙◌, ◌+ℤ◌, ◌*ℤ◌, ℤ, pos, ap, arith}
 use Rattle.std.proofs.lemmas.Int.{ints}
 use Rattle.mlp_gen.specs.Generator.{triangle}
 use Rattle.mlp_gen.proofs.Samples.{value_by}

@@ -1,4 +1,4 @@
-use Rattle.std.proofs.Common.{◌≡◌, ◌∙◌, ◌*◌, ◌≤◌, ℕ, ap, arith}
+use Rattle.std.proofs.Common.{◌∙◌, ◌*◌, ◌≤◌, ℕ, ap, arith}
 use Rattle.std.proofs.lemmas.Nat.{mul-le}
 use Rattle.mlp_fifo.specs.Pace.{unit_of}
 use Rattle.mlp_gen.proofs.making.pcm_size.Goals as goal

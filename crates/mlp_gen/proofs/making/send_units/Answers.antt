@@ -1,4 +1,4 @@
-use Rattle.std.proofs.Common.{◌≡◌, ◌∙◌, ◌+◌, ◌*◌, ◌<◌, ◌≤◌, ℕ, List, [], ◌∷◌, map, length, ℤ, Bool, true, refl, sym, ap, subst, arith}
+use Rattle.std.proofs.Common.{◌∙◌, ◌+◌, ◌<◌, ℕ, List, length, ℤ, true, sym, ap, subst, arith}
 use Rattle.std.specs.Prelude.{◌==◌}
 use Rattle.std.proofs.lemmas.Result.{err_from_is_err_and}
 use Rattle.std.proofs.lemmas.List.FromFn.{length-map-range_with_len}
@@ -7,7 +7,6 @@ use Rattle.mlp_fifo.specs.Pace.{unit_of}
 use Rattle.mlp_encode.specs.Unit.{AreNext, next_sent}
 use Rattle.mlp_encode.proofs.SyncAllowed.{passes}
 use Rattle.mlp_lossless.proofs.Shapes.{mixed, eight_at_most}
-use Rattle.mlp_gen.specs.Generator.{unit_at}
 use Rattle.mlp_gen.specs.Player.{Played, unplayed, player_at, CanTake, Took}
 use Rattle.mlp_gen.proofs.Samples.{state_first}
 use Rattle.mlp_gen.proofs.UnitFrames.{rows_are, first_next}

@@ -1,4 +1,4 @@
-use Rattle.std.proofs.Common.{◌≡◌, Err, sym, subst}
+use Rattle.std.proofs.Common.{Err, sym, subst}
 use Rattle.mlp_answers.specs.declared.failure.Failure.{Failure}
 use Rattle.mlp_gen.specs.Generated.{Makes}
 use Rattle.mlp_gen.proofs.Ends.{opened_err}
