@@ -1,2 +1,3 @@
 pub mod WholeStreams
 pub mod OneAnswer
+pub mod Bytes

@@ -3,8 +3,8 @@ use Rattle.std.proofs.Common.{◌≡◌, ℕ, zero, suc, ◌+◌, ◌*◌, ◌/�
 use Rattle.std.specs.Prelude.{All, ◌==◌}
 use Rattle.std.proofs.lemmas.Nat.{div-add-mod', div-mul-add, mod_below}
 use Rattle.std.proofs.lemmas.Bool.{ne_eqb}
-use Rattle.std.proofs.lemmas.List.{append-nil, nil_from_length, take-append-le, take_all, drop-append-le, drop_at}
-use Rattle.std.proofs.lemmas.List.Elements.{All-head, All-tail, All-take, All-drop}
+use Rattle.std.proofs.lemmas.List.{append-nil, nil_from_length, take-append-le, drop-append-le}
+use Rattle.std.proofs.lemmas.List.Elements.{All-head, All-tail, All-take}
 use Rattle.mlp_syntax.specs.declared.major.Kind.{Kind}
 use Rattle.mlp_syntax.specs.declared.refusal.NoRoom.{NoRoom}
 use Rattle.mlp_stream.specs.declared.stop.Stop.{Stop}
@@ -29,7 +29,9 @@ use Rattle.mlp_encoding.specs.Sizes.{AreSizes, sizes}
 use Rattle.mlp_encoding.specs.Wave.{profile_in, WaveEncoded, encoded, unfit, wrong, cut, waits}
 use Rattle.mlp_encoding.proofs.Parts.{IsRead, row_front, next_frames}
 use Rattle.mlp_encoding.proofs.Outcomes.{cut_none}
-use Rattle.mlp_encoded.specs.Encoded.{AreBytes, IsStreamOf, IsLossless}
+use Rattle.mlp_unit.specs.Laws.{AreBytes}
+use Rattle.mlp_encoded.proofs.Bytes.{front_bytes, back_bytes}
+use Rattle.mlp_encoded.specs.Encoded.{IsStreamOf, IsLossless}
 
 -- ---- frames of bytes one behind the other
 
@@ -80,12 +82,6 @@ module _ (p : Profile) (ok : checked p ≡ Ok tt) where
       ∙ sym (frames_append _ u (joined units ++ rest) first.size)
       ∙ ap (frames_in p) (sym (append_assoc u (joined units) rest))
 
-  bytes_left : (u v : List ℕ) → AreBytes (u ++ v) → AreBytes u
-  bytes_left u v h = subst AreBytes (take-append-le (length u) u v (omega arith) ∙ take_all (length u) u (omega arith)) (All-take (λ (b : ℕ). b < 256) (length u) (u ++ v) h)
-
-  bytes_right : (u v : List ℕ) → AreBytes (u ++ v) → AreBytes v
-  bytes_right u v h = subst AreBytes (drop_at u v (length u) refl) (All-drop (λ (b : ℕ). b < 256) (length u) (u ++ v) h)
-
   units_are : (units : List (List ℕ)) (rest : List ℕ) → All (IsFull p) units → IsLastUnit p rest → AreBytes (joined units ++ rest) → AreUnits p (all_of units rest)
   units_are [] rest full l bytes =
       (next_frames p 0 rest true ok bytes l.some l.most (λ e. absurd cc) (ap (fault_by p 0 rest true) l.clear ∙ cut_none p ok rest l), tt)
@@ -93,8 +89,8 @@ module _ (p : Profile) (ok : checked p ≡ Ok tt) where
       let first = All-head (IsFull p) u units full in
       let split = subst AreBytes (append_assoc u (joined units) rest) bytes in
       let later : (length (all_of units rest) == 0) ≡ false = ne_eqb (length (all_of units rest)) 0 (λ z. omega (arith, z, length-append (map (frames_in p) units) (frames_in p rest ∷ []))) in
-      let next = next_frames p 0 u false ok (bytes_left u (joined units ++ rest) split) (omega (arith, first.size, is.full_some)) (omega (arith, first.size)) (λ e. first.size) (ap (fault_by p 0 u false) first.clear) in
-      (subst (λ (b : Bool). AreNext p (frames_in p u) b) (sym later) next, units_are units rest (All-tail (IsFull p) u units full) l (bytes_right u (joined units ++ rest) split))
+      let next = next_frames p 0 u false ok (front_bytes u (joined units ++ rest) split) (omega (arith, first.size, is.full_some)) (omega (arith, first.size)) (λ e. first.size) (ap (fault_by p 0 u false) first.clear) in
+      (subst (λ (b : Bool). AreNext p (frames_in p u) b) (sym later) next, units_are units rest (All-tail (IsFull p) u units full) l (back_bytes u (joined units ++ rest) split))
 
   -- ---- what an end that isn't refused tells
 

@@ -1,5 +1,5 @@
 -- What comes of PCM that is encoded whole.
-use Rattle.std.specs.Prelude.{◌≡◌, ◌<◌, ℕ, true, List, All, None, Some, Ok, ℤ}
+use Rattle.std.specs.Prelude.{◌≡◌, ◌<◌, ℕ, true, List, None, Some, Ok, ℤ}
 use Rattle.mlp_syntax.specs.declared.major.Kind.{Kind}
 use Rattle.mlp_pcm.specs.declared.wave_format.Format.{Format}
 use Rattle.mlp_pcm.specs.WaveScan.{begins, Says}
@@ -7,6 +7,7 @@ use Rattle.mlp_fold.specs.declared.profile.Mix.{Mix}
 use Rattle.mlp_fold.specs.declared.profile.Profile.{Profile}
 use Rattle.mlp_fold.specs.Profile.{checked}
 use Rattle.mlp_fold.specs.Substreams.{substreams_of}
+use Rattle.mlp_unit.specs.Laws.{AreBytes}
 use Rattle.mlp_encode.specs.Left.{Left}
 use Rattle.mlp_encode.specs.Unit.{joined}
 use Rattle.mlp_lossless.specs.Chosen.{IsChosenStream}
@@ -15,9 +16,6 @@ use Rattle.mlp_lossless.specs.Streams.{all_frames, IsSent}
 use Rattle.mlp_encoding.specs.Pcm.{frames_in, data_in}
 use Rattle.mlp_encoding.specs.Encoded.{Encoded}
 use Rattle.mlp_encoding.specs.Wave.{profile_in, WaveEncoded}
-
-abbrev pub AreBytes : List ℕ → Type 0
-AreBytes bytes = All (λ (b : ℕ). b < 256) bytes
 
 -- The bytes are what is sent, unit by unit, of all frames of PCM, and each unit has a place in time.
 pub record IsStreamOf (p : Profile) (pcm stream : List ℕ) : Type 0 where

@@ -23,7 +23,8 @@ use Rattle.mlp_encoding.specs.Encoded.{Encoded}
 use Rattle.mlp_encoding.specs.Sizes.{AreSizes, sizes}
 use Rattle.mlp_lossless.specs.Streams.{all_frames, AreUnits}
 use Rattle.mlp_lossless.specs.Lossless.{GivesBack}
-use Rattle.mlp_encoded.specs.Encoded.{AreBytes, IsStreamOf}
+use Rattle.mlp_unit.specs.Laws.{AreBytes}
+use Rattle.mlp_encoded.specs.Encoded.{IsStreamOf}
 use Rattle.mlp_encoded.proofs.WholeStreams.{whole_stream, lossless}
 use Rattle.mlp_roundtrip.specs.Kept.{IsPcmOf, top_of, GivesAll, GivesBackExtracted, Keeps}
 use Rattle.mlp_roundtrip.proofs.Whole.{pcm_of}

@@ -15,7 +15,7 @@ use Rattle.mlp_encode.specs.Unit.{joined}
 use Rattle.mlp_encoding.specs.Pcm.{sample_size, frame_size, frames_in, first_padded, IsFull, IsLastUnit}
 use Rattle.mlp_encoding.specs.Sizes.{AreSizes}
 use Rattle.mlp_lossless.specs.Streams.{all_frames}
-use Rattle.mlp_encoded.specs.Encoded.{AreBytes}
+use Rattle.mlp_unit.specs.Laws.{AreBytes}
 
 module _ (p : Profile) (is : AreSizes p) where
   -- whole frames of samples of the profile's depth

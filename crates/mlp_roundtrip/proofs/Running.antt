@@ -25,7 +25,7 @@ use Rattle.mlp_encoding.specs.Pcm.{Ends, whole, empty, padded, cut_frame, cut_un
 use Rattle.mlp_encoding.specs.Encoded.{Encoded}
 use Rattle.mlp_encoding.specs.Encodes.{Answer, EncodesBy}
 use Rattle.mlp_encoding.specs.Wave.{profile_in, WaveEncoded, encoded, unfit, wrong, cut, waits}
-use Rattle.mlp_encoded.specs.Encoded.{AreBytes}
+use Rattle.mlp_unit.specs.Laws.{AreBytes}
 use Rattle.mlp_tool.specs.declared.words.Command.{Command}
 use Rattle.mlp_tool.specs.declared.words.Command.TheVariants as command
 use Rattle.mlp_tool.specs.Lines.{status_of}
@@ -33,7 +33,8 @@ use Rattle.mlp_tool.specs.Words.{plain}
 use Rattle.mlp_tool.specs.Run.{Does, Ran}
 use Rattle.mlp_roundtrip.specs.Kept.{Keeps}
 use Rattle.mlp_roundtrip.specs.Runs.{Gained, KeepsWave, RawKept, WaveKept}
-use Rattle.mlp_roundtrip.proofs.Whole.{back_bytes, ended_by}
+use Rattle.mlp_encoded.proofs.Bytes.{back_bytes}
+use Rattle.mlp_roundtrip.proofs.Whole.{ended_by}
 use Rattle.mlp_roundtrip.proofs.Keeping.{all_kept}
 
 -- status 0 is that of an end well

@@ -1,8 +1,8 @@
 -- What is encoded well is raw PCM of whole frames.
-use Rattle.std.proofs.Common.{◌≡◌, ℕ, ◌%◌, ◌<◌, Bool, true, List, [], ◌∷◌, ◌++◌, length, Option, Result, Ok, Err, ℤ, refl, sym, ap, subst, ◌∙◌, arith}
+use Rattle.std.proofs.Common.{◌≡◌, ℕ, ◌%◌, ◌<◌, Bool, true, List, [], ◌∷◌, ◌++◌, length, Option, Result, Ok, Err, ℤ, sym, ap, subst, ◌∙◌, arith}
 use Rattle.std.specs.Prelude.{All}
-use Rattle.std.proofs.lemmas.List.{length-append, append_assoc, take-append-le, take_all, drop_at}
-use Rattle.std.proofs.lemmas.List.Elements.{All-nil, All-cons, All-head, All-tail, All-take, All-drop}
+use Rattle.std.proofs.lemmas.List.{length-append, append_assoc}
+use Rattle.std.proofs.lemmas.List.Elements.{All-nil, All-cons, All-head, All-tail}
 use Rattle.mlp_syntax.specs.declared.refusal.NoRoom.{NoRoom}
 use Rattle.mlp_stream.specs.declared.stop.Stop.{Stop}
 use Rattle.mlp_fold.specs.declared.profile.Profile.{Profile}
@@ -13,16 +13,10 @@ use Rattle.mlp_encode.specs.Sent.{sent}
 use Rattle.mlp_encoding.specs.Pcm.{frame_size, first_padded, data_in, is_seen, IsFull, IsLastUnit, Ends, whole, empty, padded, cut_frame, cut_unit, unfinished, IsPcm}
 use Rattle.mlp_encoding.specs.Encoded.{Encoded, end_by}
 use Rattle.mlp_encoding.specs.Sizes.{AreSizes, sizes}
-use Rattle.mlp_encoded.specs.Encoded.{AreBytes}
+use Rattle.mlp_unit.specs.Laws.{AreBytes}
+use Rattle.mlp_encoded.proofs.Bytes.{front_bytes, back_bytes}
 use Rattle.mlp_roundtrip.specs.Kept.{IsPcmOf}
 use Rattle.mlp_roundtrip.proofs.Parts.{IsPart, full_part, last_part, are_frames, joined_clear, joined_push}
-
-front_bytes : (xs ys : List ℕ) → AreBytes (xs ++ ys) → AreBytes xs
-front_bytes xs ys h =
-    subst AreBytes (take-append-le (length xs) xs ys (omega arith) ∙ take_all (length xs) xs (omega arith)) (All-take (λ (b : ℕ). b < 256) (length xs) (xs ++ ys) h)
-
-pub back_bytes : (xs ys : List ℕ) → AreBytes (xs ++ ys) → AreBytes ys
-back_bytes xs ys h = subst AreBytes (drop_at xs ys (length xs) refl) (All-drop (λ (b : ℕ). b < 256) (length xs) (xs ++ ys) h)
 
 -- PCM that ends with an end well ended well itself
 pub ended_by : (end : Result Unit Stop) (r : Result Left NoRoom) → Ok tt ≡ end_by end r → end ≡ Ok tt

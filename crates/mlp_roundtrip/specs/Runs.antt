@@ -11,7 +11,7 @@ use Rattle.mlp_encoding.specs.Wave.{profile_in}
 use Rattle.mlp_tool.specs.declared.words.Command.TheVariants as command
 use Rattle.mlp_tool.specs.Words.{plain}
 use Rattle.mlp_tool.specs.Run.{Ran}
-use Rattle.mlp_encoded.specs.Encoded.{AreBytes}
+use Rattle.mlp_unit.specs.Laws.{AreBytes}
 use Rattle.mlp_roundtrip.specs.Kept.{Keeps}
 
 -- the output gained bytes of which this holds beside those that the input had
