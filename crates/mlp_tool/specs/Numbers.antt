@@ -23,3 +23,10 @@ begins_well (b ∷ c ∷ bs) = not (b == 48)
 
 abbrev pub number_of : List ℕ → Option ℕ
 number_of word = if begins_well word then with_digits 0 word else None
+
+-- a number, where it lies in a range
+abbrev pub within : ℕ → ℕ → ℕ → Option ℕ
+within least most n = if nat_le least n && nat_le n most then Some n else None
+
+abbrev pub number_within : ℕ → ℕ → List ℕ → Option ℕ
+number_within least most word = option_and_then (within least most) (number_of word)

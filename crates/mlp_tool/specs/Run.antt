@@ -19,6 +19,7 @@ use Rattle.mlp_editing.specs.Mended.{Mended}
 use Rattle.mlp_encoding.specs.Encodes.{EncodesRaw}
 use Rattle.mlp_encoding.specs.Wave.{EncodesWave}
 use Rattle.mlp_extract.specs.Extracting.{extracting}
+use Rattle.mlp_gen.specs.Generated.{Generates}
 use Rattle.mlp_retime.specs.Runs.{Retimes}
 use Rattle.mlp_sessions.specs.Listing.{listing}
 use Rattle.mlp_sessions.specs.Playing.{playing}
@@ -42,6 +43,8 @@ Does (Some (command.Recover presentation)) input output end = Mended presentatio
 Does (Some command.Retime) input output end = Retimes input output end
 Does (Some (command.EncodeRaw profile)) input output end = EncodesRaw profile input output end
 Does (Some (command.EncodeWav kind mix)) input output end = EncodesWave kind mix input output end
+Does (Some (command.Gen profile units seed)) input output end =
+    Generates profile seed units output end × (input.behind ≡ input.before)
 
 -- no more bytes were taken than one past the limit
 abbrev pub TakesFew : Side → Type 0

@@ -5,6 +5,7 @@ use Rattle.mlp_syntax.specs.declared.major.Kind.{Kind}
 use Rattle.mlp_syntax.specs.declared.major.Kind.TheVariants.{Fbb, Fba}
 use Rattle.mlp_fold.specs.declared.profile.Mix.{Mix}
 use Rattle.mlp_fold.specs.declared.profile.Mix.TheVariants.{Split, Fold, Bypass, Side}
+use Rattle.mlp_tool.specs.Numbers.{number_within}
 
 -- ---- of commands that read streams
 
@@ -68,3 +69,12 @@ mix_of word =
 abbrev pub mix_by : Option (List ℕ) → Option Mix
 mix_by None = Some Split
 mix_by (Some word) = mix_of word
+
+-- ---- of `gen`
+
+-- the access units to make
+abbrev pub units_of : List ℕ → Option ℕ
+units_of word = number_within 1 100000 word
+
+abbrev pub seed_of : List ℕ → Option ℕ
+seed_of word = number_within 0 4294967295 word

@@ -6,11 +6,11 @@ use Rattle.mlp_syntax.specs.declared.major.Kind.{Kind}
 use Rattle.mlp_fold.specs.declared.profile.Mix.{Mix}
 use Rattle.mlp_fold.specs.declared.profile.Profile.{Profile}
 use Rattle.mlp_tool.specs.Numbers.{number_of}
-use Rattle.mlp_tool.specs.Values.{presentation_of, bits_by, kind_of, rate_of, channels_of, depth_of, mix_by}
+use Rattle.mlp_tool.specs.Values.{presentation_of, bits_by, kind_of, rate_of, channels_of, depth_of, mix_by, units_of, seed_of}
 use Rattle.mlp_tool.specs.declared.words.Verb.{Verb}
 use Rattle.mlp_tool.specs.declared.words.Verb.TheVariants as verb
 use Rattle.mlp_tool.specs.declared.words.Name.{Name}
-use Rattle.mlp_tool.specs.declared.words.Name.TheVariants.{Presentation, Bits, First, Count, Format, Rate, Channels, Mix as Mixed}
+use Rattle.mlp_tool.specs.declared.words.Name.TheVariants.{Presentation, Bits, First, Count, Format, Rate, Channels, Mix as Mixed, Units, Seed}
 use Rattle.mlp_tool.specs.declared.words.Command.{Command}
 use Rattle.mlp_tool.specs.declared.words.Command.TheVariants as command
 
@@ -26,6 +26,7 @@ verb_of word =
     else if bytes_eq word (codes "retime") then Some verb.Retime
     else if bytes_eq word (codes "encode-raw") then Some verb.EncodeRaw
     else if bytes_eq word (codes "encode-wav") then Some verb.EncodeWav
+    else if bytes_eq word (codes "gen") then Some verb.Gen
     else None
 
 abbrev pub word_of : Name → List ℕ
@@ -37,6 +38,8 @@ word_of Format = codes "--format"
 word_of Rate = codes "--rate"
 word_of Channels = codes "--channels"
 word_of Mixed = codes "--mix"
+word_of Units = codes "--units"
+word_of Seed = codes "--seed"
 
 abbrev pub options_of : Verb → List Name
 options_of verb.DecodeRaw = Presentation ∷ Bits ∷ []
@@ -49,6 +52,7 @@ options_of verb.Recover = Presentation ∷ []
 options_of verb.Retime = []
 options_of verb.EncodeRaw = Format ∷ Rate ∷ Channels ∷ Bits ∷ Mixed ∷ []
 options_of verb.EncodeWav = Format ∷ Mixed ∷ []
+options_of verb.Gen = Format ∷ Rate ∷ Channels ∷ Bits ∷ Mixed ∷ Units ∷ Seed ∷ []
 
 -- the option that a word names, among these
 abbrev pub option_of : List Name → List ℕ → Option Name
@@ -98,6 +102,12 @@ profile_given words =
     profile_by (kind_given words) (option_and_then rate_of (value_of Rate words))
     (option_and_then channels_of (value_of Channels words)) (option_and_then depth_of (value_of Bits words)) (mix_given words)
 
+abbrev pub units_given : List (List ℕ) → Option ℕ
+units_given words = option_and_then units_of (value_of Units words)
+
+abbrev pub seed_given : List (List ℕ) → Option ℕ
+seed_given words = option_and_then seed_of (value_of Seed words)
+
 -- ---- commands
 
 -- a command by one number, or by two
@@ -114,6 +124,11 @@ abbrev pub by_format : Option Kind → Option Mix → Option Command
 by_format (Some kind) (Some mix) = Some (command.EncodeWav kind mix)
 by_format kind mix = None
 
+-- .. by a profile, a number of units and a seed
+abbrev pub by_seed : Option Profile → Option ℕ → Option ℕ → Option Command
+by_seed (Some profile) (Some units) (Some seed) = Some (command.Gen profile units seed)
+by_seed profile units seed = None
+
 abbrev pub command_of : List (List ℕ) → Verb → Option Command
 command_of words verb.DecodeRaw = by_two command.DecodeRaw (presentation_given words) (bits_given words)
 command_of words verb.DecodeWav = by_two command.DecodeWav (presentation_given words) (bits_given words)
@@ -125,6 +140,7 @@ command_of words verb.Recover = by_one command.Recover (presentation_given words
 command_of words verb.Retime = Some command.Retime
 command_of words verb.EncodeRaw = option_map command.EncodeRaw (profile_given words)
 command_of words verb.EncodeWav = by_format (kind_given words) (mix_given words)
+command_of words verb.Gen = by_seed (profile_given words) (units_given words) (seed_given words)
 
 abbrev pub with_options : List (List ℕ) → Verb → Option Command
 with_options words verb = if are_options (options_of verb) words then command_of words verb else None
@@ -147,6 +163,7 @@ presentation_in (Some (command.Recover presentation)) = presentation
 presentation_in (Some command.Retime) = 0
 presentation_in (Some (command.EncodeRaw profile)) = 0
 presentation_in (Some (command.EncodeWav kind mix)) = 0
+presentation_in (Some (command.Gen profile units seed)) = 0
 
 -- the bits of a sample in what a command writes
 abbrev pub bits_in : Option Command → ℕ
@@ -154,6 +171,13 @@ bits_in (Some (command.DecodeRaw presentation bits)) = bits
 bits_in (Some (command.DecodeWav presentation bits)) = bits
 bits_in command = 24
 
--- there is a presentation of this number, and samples of so many bits
+-- the access units that a command makes
+abbrev pub units_in : Option Command → ℕ
+units_in (Some (command.Gen profile units seed)) = units
+units_in command = 1
+
+-- there is a presentation of this number, samples have so many bits, and so many units can be made
 abbrev pub IsKnown : Option Command → Type 0
-IsKnown command = (presentation_in command ≤ 2) × ((bits_in command ≡ 16) ⊎ (bits_in command ≡ 24))
+IsKnown command =
+    (presentation_in command ≤ 2) × ((bits_in command ≡ 16) ⊎ (bits_in command ≡ 24))
+    × (1 ≤ units_in command) × (units_in command ≤ 100000)

@@ -17,8 +17,8 @@ ghost use Rattle.mlp_sessions.specs.Listing.{listing};
 ghost use Rattle.mlp_sessions.specs.Playing.{playing};
 ghost use Rattle.mlp_wave.specs.Saved.{HasOneFile};
 
-/// Each input has one end and one output for each command, and for each presentation, profile, format and mix: so the answer of a run comes exactly
-/// where its relation holds.
+/// Each input has one end and one output for each command that reads one, and for each presentation, profile, format and
+/// mix: so the answer of a run comes exactly where its relation holds.
 pub fn law_one_answer()
     ensures decode_raw { (k bits : ℕ) (all : List ℕ) → HasOneAnswer (playing k bits) all }
     ensures decode_wav { (k bits : ℕ) (all : List ℕ) → HasOneFile k bits all }

@@ -1,7 +1,7 @@
 //! Numbers among the words.
 ghost use Rattle.std.specs.Prelude.{◌≡◌, ◌≤◌, IfSome};
 ghost use Rattle.mlp_io.specs.Limit.{limit};
-ghost use Rattle.mlp_tool.specs.Numbers.{with_digit, with_digits, begins_well, number_of};
+ghost use Rattle.mlp_tool.specs.Numbers.{with_digit, with_digits, begins_well, number_of, number_within};
 
 /// The greatest number.
 const LIMIT: u64 = 1 << 40;
@@ -52,4 +52,17 @@ pub fn number_of(word: &str) -> Option<u64>
         return None;
     }
     with_digits(digits)
+}
+
+/// The number from `least` to `most` that a word names.
+pub fn number_within(word: &str, least: u64, most: u64) -> Option<u64>
+    ensures form { result ≡ number_within least most word.now }
+    ensures range { IfSome result (λ n. (least ≤ n) × (n ≤ most)) }
+{
+    let number = number_of(word)?;
+    if least <= number && number <= most {
+        Some(number)
+    } else {
+        None
+    }
 }

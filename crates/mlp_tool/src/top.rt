@@ -22,6 +22,7 @@ use mlp_cut::Cutter;
 use mlp_editing::recover_input;
 use mlp_encoding::{encode_raw, encode_wave};
 use mlp_extract::Extractor;
+use mlp_gen::generate;
 use mlp_io::{Sink, Source, put_all};
 use mlp_retime::Retimer;
 use mlp_sessions::{Decode, List};
@@ -163,6 +164,13 @@ fn work<S: Source, K: Sink>(
         Some(Command::Retime) => retime(alloc, input, output),
         Some(Command::EncodeRaw { profile }) => encode_raw(alloc, *profile, input, output),
         Some(Command::EncodeWav { kind, mix }) => encode_wave(alloc, *kind, *mix, input, output),
+        Some(
+            Command::Gen {
+                profile,
+                units,
+                seed,
+            },
+        ) => { generate(alloc, *profile, *seed, *units, output) }
     }
 }
 
@@ -179,7 +187,7 @@ fn presentation_in(command: &Option<Command>) -> u8
 {
     match command {
         None | Some(Command::List | Command::Cut { .. } | Command::Retime) => 0,
-        Some(Command::EncodeRaw { .. } | Command::EncodeWav { .. }) => 0,
+        Some(Command::EncodeRaw { .. } | Command::EncodeWav { .. } | Command::Gen { .. }) => 0,
         Some(Command::DecodeRaw { presentation, .. }) => *presentation,
         Some(Command::DecodeWav { presentation, .. }) => *presentation,
         Some(Command::Extract { presentation }) => *presentation,
@@ -190,8 +198,9 @@ fn presentation_in(command: &Option<Command>) -> u8
 
 /// Runs the words over an input and an output, tells the line of the end to `errors`, and answers its status.
 ///
-/// `check`, `retime`, `encode-raw` and `encode-wav` take memory from `alloc` before they read, `decode-wav` for the samples
-/// and `recover` for the input; no other command does. A run takes at most one byte more than 2^40 from the input.
+/// `check`, `retime`, `encode-raw` and `encode-wav` take memory from `alloc` before they read, `decode-wav` for the samples,
+/// `recover` for the input and `gen` before it makes a unit; no other command does. `gen` reads nothing, and a run takes at
+/// most one byte more than 2^40 from the input.
 ///
 /// # Errors
 ///

@@ -1,7 +1,8 @@
 //! The values of options.
 ghost use Rattle.std.specs.Prelude.{◌≡◌, ◌≤◌, ◌⊎◌, IfSome};
-ghost use Rattle.mlp_tool.specs.Values.{presentation_of, bits_of, kind_of, rate_of, channels_of, depth_of, mix_of};
+ghost use Rattle.mlp_tool.specs.Values.{presentation_of, bits_of, kind_of, rate_of, channels_of, depth_of, mix_of, units_of, seed_of};
 
+use crate::numbers::number_within;
 use mlp_fold::Mix;
 use mlp_syntax::Kind;
 
@@ -91,4 +92,20 @@ pub fn mix_of(word: &str) -> Option<Mix>
         "side" => Some(Mix::Side),
         _ => None,
     }
+}
+
+/// The access units to make that a word names.
+pub fn units_of(word: &str) -> Option<u64>
+    ensures form { result ≡ units_of word.now }
+    ensures range { IfSome result (λ units. (1 ≤ units) × (units ≤ 100000)) }
+{
+    number_within(word, 1, 100_000)
+}
+
+/// The seed that a word names.
+pub fn seed_of(word: &str) -> Option<u32>
+    ensures { result ≡ seed_of word.now }
+{
+    let seed = number_within(word, 0, u64::from(u32::MAX))?;
+    Some(seed as u32)
 }

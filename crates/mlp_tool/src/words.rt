@@ -2,10 +2,12 @@
 ghost use Rattle.std.specs.Prelude.{◌≡◌, ◌≤◌, ◌⊎◌, map, string_bytes, length, IfSome};
 ghost use Rattle.std.specs.Option.{option_map};
 ghost use Rattle.mlp_io.specs.Limit.{limit};
-ghost use Rattle.mlp_tool.specs.Words.{verb_of, word_of, options_of, option_of, value_of, are_options, presentation_given, bits_given, number_given, kind_given, mix_given, profile_given, command_of, with_options, plain, IsKnown};
+ghost use Rattle.mlp_tool.specs.Words.{verb_of, word_of, options_of, option_of, value_of, are_options, presentation_given, bits_given, number_given, kind_given, mix_given, profile_given, units_given, seed_given, command_of, with_options, plain, IsKnown};
 
 use crate::numbers::number_of;
-use crate::values::{bits_of, channels_of, depth_of, kind_of, mix_of, presentation_of, rate_of};
+use crate::values::{
+    bits_of, channels_of, depth_of, kind_of, mix_of, presentation_of, rate_of, seed_of, units_of,
+};
 use mlp_fold::{Mix, Profile};
 use mlp_syntax::Kind;
 
@@ -22,6 +24,7 @@ pub enum Verb {
     Retime,
     EncodeRaw,
     EncodeWav,
+    Gen,
 }
 
 /// An option's name.
@@ -35,31 +38,59 @@ pub enum Name {
     Rate,
     Channels,
     Mix,
+    Units,
+    Seed,
 }
 
 /// A command and its options.
 #[derive(Clone, Copy, Debug, PartialEq, Eq)]
 pub enum Command {
     /// Write the samples of a presentation, in 16 or 24 bits each.
-    DecodeRaw { presentation: u8, bits: u8 },
+    DecodeRaw {
+        presentation: u8,
+        bits: u8,
+    },
     /// Write them as a WAVE file.
-    DecodeWav { presentation: u8, bits: u8 },
+    DecodeWav {
+        presentation: u8,
+        bits: u8,
+    },
     /// Write the stream of a presentation.
-    Extract { presentation: u8 },
+    Extract {
+        presentation: u8,
+    },
     /// Write a line for each access unit.
     List,
     /// Decode a presentation, and write what the stream is.
-    Check { presentation: u8 },
+    Check {
+        presentation: u8,
+    },
     /// Write `count` access units from the one of number `first` on, byte for byte.
-    Cut { first: u64, count: u64 },
+    Cut {
+        first: u64,
+        count: u64,
+    },
     /// Write the samples of a presentation in those restart intervals that are intact.
-    Recover { presentation: u8 },
+    Recover {
+        presentation: u8,
+    },
     /// Write the stream with the timings of the earliest schedule.
     Retime,
     /// Write the stream of raw PCM of a profile.
-    EncodeRaw { profile: Profile },
+    EncodeRaw {
+        profile: Profile,
+    },
     /// Write the stream of a WAVE file's PCM.
-    EncodeWav { kind: Kind, mix: Mix },
+    EncodeWav {
+        kind: Kind,
+        mix: Mix,
+    },
+    /// Make `units` access units of a profile by a seed, and write what came of them.
+    Gen {
+        profile: Profile,
+        units: u64,
+        seed: u32,
+    },
 }
 
 fn verb_of(word: &str) -> Option<Verb>
@@ -76,6 +107,7 @@ fn verb_of(word: &str) -> Option<Verb>
         "retime" => Some(Verb::Retime),
         "encode-raw" => Some(Verb::EncodeRaw),
         "encode-wav" => Some(Verb::EncodeWav),
+        "gen" => Some(Verb::Gen),
         _ => None,
     }
 }
@@ -92,6 +124,8 @@ fn word_of(name: Name) -> &'static str
         Name::Rate => "--rate",
         Name::Channels => "--channels",
         Name::Mix => "--mix",
+        Name::Units => "--units",
+        Name::Seed => "--seed",
     }
 }
 
@@ -112,6 +146,15 @@ fn options_of(verb: Verb) -> &'static [Name]
             Name::Mix,
         ],
         Verb::EncodeWav => &[Name::Format, Name::Mix],
+        Verb::Gen => &[
+            Name::Format,
+            Name::Rate,
+            Name::Channels,
+            Name::Bits,
+            Name::Mix,
+            Name::Units,
+            Name::Seed,
+        ],
     }
 }
 
@@ -219,6 +262,21 @@ fn profile_given(words: &[String]) -> Option<Profile>
     })
 }
 
+/// The access units that an option names.
+fn units_given(words: &[String]) -> Option<u64>
+    ensures form { result ≡ units_given (map string_bytes words.now) }
+    ensures range { IfSome result (λ units. (1 ≤ units) × (units ≤ 100000)) }
+{
+    units_of(value_of(Name::Units, words)?)
+}
+
+/// The seed that an option names.
+fn seed_given(words: &[String]) -> Option<u32>
+    ensures { result ≡ seed_given (map string_bytes words.now) }
+{
+    seed_of(value_of(Name::Seed, words)?)
+}
+
 /// The command of this name with these options.
 fn command_of(words: &[String], verb: Verb) -> Option<Command>
     ensures form { result ≡ command_of (map string_bytes words.now) verb }
@@ -262,6 +320,16 @@ fn command_of(words: &[String], verb: Verb) -> Option<Command>
             let kind = kind_given(words)?;
             let mix = mix_given(words)?;
             Some(Command::EncodeWav { kind, mix })
+        }
+        Verb::Gen => {
+            let profile = profile_given(words)?;
+            let units = units_given(words)?;
+            let seed = seed_given(words)?;
+            Some(Command::Gen {
+                profile,
+                units,
+                seed,
+            })
         }
     }
 }
