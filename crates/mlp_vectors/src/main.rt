@@ -2,7 +2,7 @@
 //!
 //! The answers are those of an independent program. There are seven tables: streams that break each rule of the format,
 //! streams that break several rules or are cut, good but unusual streams, damaged bytes, words of no plain form, worked streams,
-//! and PCM to encode.
+//! and PCM to encode or to make.
 //! `NAME.streams` has a table's streams one behind the other, `NAME.txt` its runs, and `rules.txt` the runs that meet each
 //! rule.
 #![tactic(auto)]
