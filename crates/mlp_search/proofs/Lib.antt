@@ -22,3 +22,4 @@ pub mod FoldSteps
 pub mod KeptLaws
 pub mod LineLaws
 pub mod LineFits
+pub mod SkipLaws

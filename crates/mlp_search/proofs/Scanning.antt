@@ -95,16 +95,42 @@ scan_stops cost f start best n m le e rest =
 pub scan_begins : (cost : Choice → Option ℕ) (f : ℕ → List Choice) (start : Option Choice) (n : ℕ) → ((j : ℕ) → j < n → Along (λ c. better start c (cost c) ≡ start) (f j)) → start ≡ least_from cost start (flat_map f (range_with_len 0 n))
 scan_begins cost f start n rest = sym (kept_scanned cost start (flat_map f (range_with_len 0 n)) (along_range (λ c. better start c (cost c) ≡ start) f 0 n (λ j l u. rest j (omega (arith, u)))))
 
--- a scan from 1 on that goes on by one more number
-pub scan_more_behind : (cost : Choice → Option ℕ) (f : ℕ → List Choice) (start best next : Option Choice) (n : ℕ) → 1 ≤ n → best ≡ least_from cost start (flat_map f (range_with_len 1 (n - 1))) → next ≡ least_from cost best (f n)
-    → next ≡ least_from cost start (flat_map f (range_with_len 1 (n + 1 - 1)))
-scan_more_behind cost f start best next n some e is =
-    let one : suc (n - 1) ≡ n + 1 - 1 = omega (arith, some) in
+-- a scan from a number on that goes on by one more
+pub scan_more_from : (cost : Choice → Option ℕ) (f : ℕ → List Choice) (start best next : Option Choice) (a n : ℕ) → a ≤ n → best ≡ least_from cost start (flat_map f (range_with_len a (n - a))) → next ≡ least_from cost best (f n)
+    → next ≡ least_from cost start (flat_map f (range_with_len a (n + 1 - a)))
+scan_more_from cost f start best next a n le e is =
+    let one : suc (n - a) ≡ n + 1 - a = omega (arith, le) in
     is
     ∙ ap (λ (b : Option Choice). least_from cost b (f n)) e
-    ∙ sym (least_from-append cost start (flat_map f (range_with_len 1 (n - 1))) (f n))
-    ∙ ap (least_from cost start) (sym (range_behind f 1 (n - 1) n (omega (arith, some))) ∙ ap (λ (k : ℕ). flat_map f (range_with_len 1 k)) one)
+    ∙ sym (least_from-append cost start (flat_map f (range_with_len a (n - a))) (f n))
+    ∙ ap (least_from cost start) (sym (range_behind f a (n - a) n (omega (arith, le))) ∙ ap (λ (k : ℕ). flat_map f (range_with_len a k)) one)
+
+pub scan_more_behind : (cost : Choice → Option ℕ) (f : ℕ → List Choice) (start best next : Option Choice) (n : ℕ) → 1 ≤ n → best ≡ least_from cost start (flat_map f (range_with_len 1 (n - 1))) → next ≡ least_from cost best (f n)
+    → next ≡ least_from cost start (flat_map f (range_with_len 1 (n + 1 - 1)))
+scan_more_behind cost f start best next n some e is = scan_more_from cost f start best next 1 n some e is
 
 -- the first number, and those behind it
 pub scan_joined : (cost : Choice → Option ℕ) (f : ℕ → List Choice) (start first best : Option Choice) (n : ℕ) → first ≡ least_from cost start (f 0) → best ≡ least_from cost first (flat_map f (range_with_len 1 n)) → best ≡ least_from cost start (flat_map f (range_with_len 0 (suc n)))
 scan_joined cost f start first best n e is = is ∙ ap (λ (b : Option Choice). least_from cost b (flat_map f (range_with_len 1 n))) e ∙ sym (least_from-append cost start (f 0) (flat_map f (range_with_len 1 n)))
+
+-- two scans one behind the other
+pub scan_continued : (cost : Choice → Option ℕ) (f : ℕ → List Choice) (start first best : Option Choice) (m n : ℕ) → first ≡ least_from cost start (flat_map f (range_with_len 0 m)) → best ≡ least_from cost first (flat_map f (range_with_len m n))
+    → best ≡ least_from cost start (flat_map f (range_with_len 0 (m + n)))
+scan_continued cost f start first best m n e is =
+    let from : zero + m ≡ m = omega arith in
+    is
+    ∙ ap (λ (b : Option Choice). least_from cost b (flat_map f (range_with_len m n))) e
+    ∙ sym (least_from-append cost start (flat_map f (range_with_len 0 m)) (flat_map f (range_with_len m n)))
+    ∙ ap (least_from cost start) (ap (λ (k : ℕ). flat_map f (range_with_len 0 m) ++ flat_map f (range_with_len k n)) (sym from) ∙ sym (range_parts f 0 m n))
+
+-- the first number alone
+pub scan_first : (cost : Choice → Option ℕ) (f : ℕ → List Choice) (start best : Option Choice) → best ≡ least_from cost start (f 0) → best ≡ least_from cost start (flat_map f (range_with_len 0 1))
+scan_first cost f start best e = e ∙ ap (least_from cost start) (sym (append-nil (f 0)))
+
+-- numbers that leave the best as it is
+pub scan_kept : (cost : Choice → Option ℕ) (f : ℕ → List Choice) (best : Option Choice) (a n : ℕ) → ((j : ℕ) → a ≤ j → j < a + n → best ≡ least_from cost best (f j)) → best ≡ least_from cost best (flat_map f (range_with_len a n))
+scan_kept cost f best a zero h = refl
+scan_kept cost f best a (suc n) h =
+    scan_kept cost f best (a + 1) n (λ j from to. h j (omega (arith, from)) (omega (arith, to)))
+    ∙ ap (λ (b : Option Choice). least_from cost b (flat_map f (range_with_len (a + 1) n))) (h a (omega arith) (omega arith))
+    ∙ sym (least_from-append cost best (f a) (flat_map f (range_with_len (a + 1) n)))

@@ -60,7 +60,7 @@ module _ (force : ChannelState) (past : Past) (step : ℕ) (filters : Bool) (sam
       ap (λ (o : Option Pair). option_and_then (λ pair. cost_over force step filters pair (residuals_for past step samples c.filter pair) c) o) (ap (pair_of force step samples) e ∙ none)))
 
   -- what a choice of the number costs
-  cost_here : (pair : Pair) (c : Choice) → pair_of force step samples n ≡ Some pair → c.filter ≡ n → cost_of force past step filters samples c ≡ cost_over force step filters pair (residuals_for past step samples n pair) c
+  pub cost_here : (pair : Pair) (c : Choice) → pair_of force step samples n ≡ Some pair → c.filter ≡ n → cost_of force past step filters samples c ≡ cost_over force step filters pair (residuals_for past step samples n pair) c
   cost_here pair c there e =
       ap (λ (o : Option Pair). option_and_then (λ q. cost_over force step filters q (residuals_for past step samples c.filter q) c) o) (ap (pair_of force step samples) e ∙ there)
       ∙ ap (λ (k : ℕ). cost_over force step filters pair (residuals_for past step samples k pair) c) e
@@ -171,16 +171,13 @@ module _ (force : ChannelState) (past : Past) (step : ℕ) (samples : List ℤ) 
       split ∙ none ∙ same ∙ ap (least_from (cost_of force past step true samples) None) (sym (append-nil (books 0)))
 
   -- what is found among the filters that are looked at is the choice
-  pub found_is : (filters : Bool) (count : ℕ) (best : Option Choice) → (filters ≡ true → count ≡ 18) → (filters ≡ false → count ≡ 1)
-      → best ≡ least_from (cost_of force past step true samples) None (flat_map (λ n. with_books n (middle_for force past step samples n)) (range_with_len 0 count))
+  pub found_is : (filters : Bool) (best : Option Choice)
+      → (filters ≡ true → best ≡ least_from (cost_of force past step true samples) None (flat_map (λ n. with_books n (middle_for force past step samples n)) (range_with_len 0 18)))
+      → (filters ≡ false → best ≡ least_from (cost_of force past step true samples) None (flat_map (λ n. with_books n (middle_for force past step samples n)) (range_with_len 0 1)))
       → unwrap_or best (choice_of 0 0 0 (pos 0)) ≡ chosen force past step filters samples
   unfolding chosen choices
-  found_is true count best all one e =
-      ap (λ (o : Option Choice). unwrap_or o (choice_of 0 0 0 (pos 0)))
-      (e ∙ ap (λ (k : ℕ). least_from (cost_of force past step true samples) None (flat_map (λ n. with_books n (middle_for force past step samples n)) (range_with_len 0 k))) (all refl))
-  found_is false count best all one e =
-      ap (λ (o : Option Choice). unwrap_or o (choice_of 0 0 0 (pos 0)))
-      (e ∙ ap (λ (k : ℕ). least_from (cost_of force past step true samples) None (flat_map (λ n. with_books n (middle_for force past step samples n)) (range_with_len 0 k))) (one refl) ∙ sym first_alone)
+  found_is true best all one = ap (λ (o : Option Choice). unwrap_or o (choice_of 0 0 0 (pos 0))) (all refl)
+  found_is false best all one = ap (λ (o : Option Choice). unwrap_or o (choice_of 0 0 0 (pos 0))) (one refl ∙ sym first_alone)
 
 -- ---- a choice with a cost
 

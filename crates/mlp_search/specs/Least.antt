@@ -1,5 +1,5 @@
 -- The choice that is taken: the first of those that cost least.
-use Rattle.std.specs.Prelude.{◌≡◌, ℕ, ◌+◌, ◌*◌, ◌<◌, ◌≤◌, nat_lt, Bool, true, List, [], ◌∷◌, Option, Some, None, unwrap_or, ℤ, pos, if◌then◌else◌}
+use Rattle.std.specs.Prelude.{◌≡◌, ℕ, ◌+◌, ◌*◌, ◌<◌, ◌≤◌, nat_lt, Bool, true, false, List, [], ◌∷◌, Option, Some, None, unwrap_or, ℤ, pos, if◌then◌else◌}
 use Rattle.std.specs.List.{flat_map, range_with_len}
 use Rattle.std.specs.Option.{option_map_or}
 use Rattle.std.specs.Ordering.{int_eq}
@@ -25,6 +25,10 @@ better best c (Some n) = if is_better n best then Some (record c { bits = n }) e
 abbrev pub least_from : (Choice → Option ℕ) → Option Choice → List Choice → Option Choice
 least_from cost best [] = best
 least_from cost best (c ∷ cs) = least_from cost (better best c (cost c)) cs
+
+-- it costs no more than any choice of the filters in force
+abbrev pub IsWithinFirst : (Choice → Option ℕ) → Option Choice → Type 0
+IsWithinFirst cost best = (c : Choice) (n : ℕ) → c.filter ≡ 0 → cost c ≡ Some n → is_better n best ≡ false
 
 -- ---- the choices, in their order
 

@@ -40,7 +40,7 @@ fn is_offset(offset: i16, middle: i16) -> bool
 }
 
 /// How many bits the flag and the parameters of the channel take.
-pub(crate) fn parameter_sum(state: &ChannelState, trial: &Trial, choice: &Choice) -> u64
+pub(crate) fn parameter_sum(state: &ChannelState, trial: &Trial<'_>, choice: &Choice) -> u64
     requires writes { Writes state.now trial.now }
     requires number { choice.now.filter ≡ trial.now.number }
     ensures value { result ≡ parameter_sum state.now trial.now.pair choice.now }
@@ -76,7 +76,7 @@ fn code_bits(step: u8, choice: &Choice, residuals: &[i32]) -> Option<u64>
 pub(crate) fn cost_over(
     state: &ChannelState,
     step: u8,
-    trial: &Trial,
+    trial: &Trial<'_>,
     residuals: &[i32],
     choice: &Choice,
 ) -> Option<u64>
@@ -116,9 +116,10 @@ pub fn cost(
     let pair = pair_of(state, step, samples, choice.filter)?;
     let mut line = [0; 160];
     let residuals = &mut line[..samples.len()];
-    if !residuals_for(history, step, choice.filter, &pair, samples, residuals) {
+    let view = pair.view();
+    if !residuals_for(history, step, choice.filter, &view, samples, residuals) {
         return None;
     }
-    let trial = trial_of(state, step, choice.filter, pair, residuals);
+    let trial = trial_of(state, step, choice.filter, view, residuals);
     cost_over(state, step, &trial, residuals, choice)
 }

@@ -6,7 +6,7 @@ ghost use Rattle.mlp_params.specs.States.{IsChannelState};
 ghost use Rattle.mlp_search.specs.Given.{IsPair, same_filter, fir_stays, iir_stays, with_zeros, fir_given, iir_given, offset_given, codes_alike, given, given_by};
 
 use crate::choice::Choice;
-use crate::pair::{Pair, pair_of};
+use crate::pair::{Pair, PairRef, pair_of};
 use crate::reduction::zeros;
 use mlp_params::ChannelState;
 use mlp_syntax::{ChannelParams, Filter};
@@ -22,14 +22,14 @@ fn same_filter(a: &Filter<8>, b: &Filter<8>) -> bool
 }
 
 /// Whether no FIR is written: that of filter 0, or one that is in force.
-pub(crate) fn fir_stays(state: &ChannelState, number: u8, pair: &Pair) -> bool
+pub(crate) fn fir_stays(state: &ChannelState, number: u8, pair: &PairRef<'_>) -> bool
     ensures { result ≡ fir_stays state.now number pair.now }
 {
-    number == 0 || same_filter(&pair.fir, &state.fir)
+    number == 0 || same_filter(pair.fir, &state.fir)
 }
 
 /// Whether no IIR is written: that of filter 0, or where there is none and none is in force.
-pub(crate) fn iir_stays(state: &ChannelState, number: u8, pair: &Pair) -> bool
+pub(crate) fn iir_stays(state: &ChannelState, number: u8, pair: &PairRef<'_>) -> bool
     ensures { result ≡ iir_stays state.now number pair.now }
 {
     number == 0 || (pair.iir.coeffs.is_empty() && state.iir.coeffs.is_empty())
@@ -68,8 +68,9 @@ fn offset_given(state: &ChannelState, offset: i16) -> Option<i16>
 fn given_of(state: &ChannelState, pair: Pair, choice: &Choice) -> Option<ChannelParams>
     ensures { result ≡ given state.now pair choice.now }
 {
-    let fir_stays = fir_stays(state, choice.filter, &pair);
-    let iir_stays = iir_stays(state, choice.filter, &pair);
+    let view = pair.view();
+    let fir_stays = fir_stays(state, choice.filter, &view);
+    let iir_stays = iir_stays(state, choice.filter, &view);
     if fir_stays && iir_stays && codes_alike(state, choice) {
         return None;
     }

@@ -11,7 +11,7 @@ ghost use Rattle.mlp_search.specs.Folded.{stepped};
 ghost use Rattle.mlp_search.specs.Candidates.{residuals_for};
 ghost use Rattle.mlp_search.specs.Lines.{low_part, alone_by, left_in, IsLight, IsLine, IsIn};
 
-use crate::pair::Pair;
+use crate::pair::PairRef;
 use crate::reduction::count_steps;
 use mlp_arith::clear;
 use mlp_predict::Predictor;
@@ -251,7 +251,7 @@ fn reduce_by(coeffs: &[i32], shift: u8, line: &Line<'_>, values: &mut [i32]) -> 
 }
 
 /// Puts what filters without an IIR leave of the block, in quantisation steps; false where that isn't done here.
-pub(crate) fn reduce_in(pair: &Pair, line: &Line<'_>, values: &mut [i32]) -> bool
+pub(crate) fn reduce_in(pair: &PairRef<'_>, line: &Line<'_>, values: &mut [i32]) -> bool
     requires filters { AreFilters pair.now.fir pair.now.iir }
     requires room { length line.now.whole.now ≡ 8 + length values.old }
     requires small { All Is26 line.now.whole.now }

@@ -1,17 +1,18 @@
 //! The filters of a channel, by number.
 
-ghost use Rattle.std.specs.Prelude.{◌≡◌, ◌≤◌, ◌-◌, length, All, slice_get, Some, None, IfSome, ℕ, ℤ, List};
+ghost use Rattle.std.specs.Prelude.{◌≡◌, ◌≤◌, ◌-◌, length, All, slice_get, Some, None, IfSome};
 ghost use Rattle.mlp_arith.specs.Ranges.{Is26};
 ghost use Rattle.mlp_params.specs.Filters.{absent};
 ghost use Rattle.mlp_params.specs.States.{IsChannelState};
 ghost use Rattle.mlp_predict.specs.Filters.{AreFilters};
 ghost use Rattle.mlp_search.specs.Given.{IsPair};
-ghost use Rattle.mlp_search.specs.Candidates.{AreComputed, filter_with, alone, beside_half, table, in_force, pair_of};
+ghost use Rattle.mlp_search.specs.Candidates.{filter_with, alone, beside_half, table, in_force, pair_of};
 
 use arrayvec::ArrayVec;
 use mlp_levinson::levinson;
 use mlp_params::ChannelState;
 use mlp_syntax::Filter;
+use std::marker::Model;
 
 /// Both filters of a channel, without states.
 #[derive(Drop)]
@@ -20,6 +21,33 @@ pub struct Pair {
     pub fir: Filter<8>,
     /// The filter over the latest differences, of at most 4 coefficients.
     pub iir: Filter<4>,
+}
+
+/// Both filters of a channel where they stand.
+#[derive(Drop)]
+pub struct PairRef<'a> {
+    pub fir: &'a Filter<8>,
+    pub iir: &'a Filter<4>,
+}
+
+impl<'a> Model for PairRef<'a> {
+    ghost use Rattle.mlp_search.specs.declared.pair.Pair.{Pair};
+
+    ghost Value = { Pair };
+
+    ghost view = { λ pair. record { fir = pair.fir.now; iir = pair.iir.now } };
+}
+
+impl Pair {
+    /// Both where they stand.
+    pub(crate) fn view(&self) -> PairRef<'_>
+        ensures { result ≡ self.now }
+    {
+        PairRef {
+            fir: &self.fir,
+            iir: &self.iir,
+        }
+    }
 }
 
 /// A list of the same coefficients.
@@ -60,13 +88,20 @@ fn copied_filter<const N: usize>(filter: &Filter<N>) -> Filter<N>
     }
 }
 
+/// No filter.
+pub(crate) fn without<const N: usize>() -> Filter<N>
+    ensures { result ≡ absent }
+{
+    filter_with(0, 0, &[])
+}
+
 /// A FIR without an IIR.
 fn alone(fir: Filter<8>) -> Pair
     ensures { result ≡ alone fir }
 {
     Pair {
         fir,
-        iir: filter_with(0, 0, &[]),
+        iir: without(),
     }
 }
 
@@ -81,13 +116,13 @@ fn beside_half(fir: Filter<8>) -> Pair
 }
 
 /// The filters of the table, by number.
-fn in_table(number: u8) -> Pair
+pub(crate) fn in_table(number: u8) -> Pair
     requires least { 1 ≤ number }
     requires most { number ≤ 9 }
     ensures { slice_get table (number - 1) ≡ Some result }
 {
     match number {
-        1 => alone(filter_with(0, 0, &[])),
+        1 => alone(without()),
         2 => alone(filter_with(0, 2, &[1])),
         3 => alone(filter_with(0, 3, &[2, -1])),
         4 => alone(filter_with(0, 3, &[3, -3, 1])),
@@ -108,29 +143,6 @@ fn in_force(state: &ChannelState) -> Pair
         fir: copied_filter(&state.fir),
         iir: copied_filter(&state.iir),
     }
-}
-
-/// The filters of a number: those in force, one of the table, or a FIR of those computed from the samples.
-pub(crate) fn pair_from(state: &ChannelState, computed: &[Filter<8>], number: u8) -> Option<Pair>
-    requires state { IsChannelState state.now }
-    requires stateless { All (λ fir. fir.state ≡ None) computed.now }
-    ensures { (step : ℕ) (samples : List ℤ) → AreComputed step samples computed.now →
-        result ≡ pair_of state.now step samples number }
-{
-    if number == 0 {
-        return Some(in_force(state));
-    }
-    if number <= 9 {
-        return Some(in_table(number));
-    }
-    if number > 17 {
-        return None;
-    }
-    let place = number as usize - 10;
-    if place >= computed.len() {
-        return None;
-    }
-    Some(alone(copied_filter(&computed[place])))
 }
 
 /// The filters of a number: those in force, one of the table, or a computed FIR.

@@ -13,7 +13,7 @@ ghost use Rattle.mlp_search.specs.Lines.{IsIn};
 
 use crate::choice::Choice;
 use crate::line::{Line, reduce_in};
-use crate::pair::{Pair, pair_of};
+use crate::pair::{PairRef, pair_of};
 use arrayvec::ArrayVec;
 use mlp_params::ChannelState;
 use mlp_predict::Predictor;
@@ -37,7 +37,7 @@ pub(crate) fn zeros(count: usize) -> FilterState
 }
 
 /// Puts the state that the filters of a number come with into the past.
-fn put_state(history: &mut Predictor<8, 4>, number: u8, pair: &Pair)
+fn put_state(history: &mut Predictor<8, 4>, number: u8, pair: &PairRef<'_>)
     ensures { history.new ≡ past_for number pair.now history.old }
 {
     if number > 0 {
@@ -50,7 +50,7 @@ pub(crate) fn residuals_for(
     history: &Predictor<8, 4>,
     step: u8,
     number: u8,
-    pair: &Pair,
+    pair: &PairRef<'_>,
     samples: &[i32],
     residuals: &mut [i32],
 ) -> bool
@@ -64,7 +64,7 @@ pub(crate) fn residuals_for(
 {
     let mut past = history.copied();
     put_state(&mut past, number, pair);
-    past.residuals(&pair.fir, &pair.iir, step, samples, residuals)
+    past.residuals(pair.fir, pair.iir, step, samples, residuals)
 }
 
 /// Puts residuals that are whole steps of 2^step in steps.
@@ -84,7 +84,7 @@ pub(crate) fn values_for(
     history: &Predictor<8, 4>,
     step: u8,
     number: u8,
-    pair: &Pair,
+    pair: &PairRef<'_>,
     samples: &[i32],
     line: &Line<'_>,
     values: &mut [i32],
@@ -134,7 +134,7 @@ pub fn reduced(
         ≡ Some history.new }
 {
     if let Some(pair) = pair_of(state, step, samples, choice.filter) {
-        put_state(history, choice.filter, &pair);
+        put_state(history, choice.filter, &pair.view());
         let _fit = history.reduce_block(&pair.fir, &pair.iir, step, samples, residuals);
     }
 }

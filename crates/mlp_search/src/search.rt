@@ -2,18 +2,18 @@
 
 ghost use Rattle.std.specs.Prelude.{◌≡◌, ◌≤◌, ◌*◌, ◌+◌, length, All, IsTrue, true, false, Some, None};
 ghost use Rattle.std.specs.List.{flat_map, range_with_len};
-ghost use Rattle.mlp_search.specs.Candidates.{AreComputed};
 ghost use Rattle.mlp_arith.specs.Words.{clear};
 ghost use Rattle.mlp_arith.specs.Ranges.{Is26};
 ghost use Rattle.mlp_params.specs.Filters.{order_of};
 ghost use Rattle.mlp_params.specs.States.{IsChannelState};
+ghost use Rattle.mlp_search.specs.Candidates.{AreComputed, pair_of};
 ghost use Rattle.mlp_search.specs.Cost.{cost_of};
 ghost use Rattle.mlp_search.specs.Lines.{IsIn};
 ghost use Rattle.mlp_search.specs.Least.{least_from, with_books, middle_for, chosen, IsLeast};
 
 use crate::choice::Choice;
 use crate::line::{Line, put_line};
-use crate::pair::pair_from;
+use crate::pair::{PairRef, in_table, without};
 use crate::reduction::values_for;
 use crate::trial::trial_of;
 use crate::weighing::{choice_of, with_books};
@@ -29,6 +29,75 @@ fn with_filters(
     history: &Predictor<8, 4>,
     step: u8,
     number: u8,
+    pair: PairRef<'_>,
+    samples: &[i32],
+    line: &Line<'_>,
+    values: &mut [i32],
+    best: Option<Choice>,
+) -> Option<Choice>
+    requires state { IsChannelState state.now }
+    requires step { step ≤ 8 }
+    requires few { length samples.now ≤ 160 }
+    requires samples { All Is26 samples.now }
+    requires whole { All (λ x. clear step x ≡ x) samples.now }
+    requires pair { pair_of state.now step samples.now number ≡ Some pair }
+    requires line { IsTrue line.now.narrow → IsIn step history.now samples.now line.now }
+    requires room { length samples.now ≡ length values.old }
+    ensures { let mid = middle_for state.now history.now step samples.now number in result
+        ≡ least_from (cost_of state.now history.now step true samples.now) best
+        (with_books number mid) }
+{
+    if !values_for(history, step, number, &pair, samples, line, values) {
+        return best;
+    }
+    let trial = trial_of(state, 0, number, pair, values);
+    with_books(state, step, &trial, values, best)
+}
+
+/// The best so far, with the choices of the filters of the table.
+fn with_table(
+    state: &ChannelState,
+    history: &Predictor<8, 4>,
+    step: u8,
+    samples: &[i32],
+    line: &Line<'_>,
+    values: &mut [i32],
+    mut best: Option<Choice>,
+) -> Option<Choice>
+    requires state { IsChannelState state.now }
+    requires step { step ≤ 8 }
+    requires few { length samples.now ≤ 160 }
+    requires samples { All Is26 samples.now }
+    requires whole { All (λ x. clear step x ≡ x) samples.now }
+    requires line { IsTrue line.now.narrow → IsIn step history.now samples.now line.now }
+    requires room { length samples.now ≡ length values.old }
+    ensures { result ≡ least_from (cost_of state.now history.now step true samples.now) best
+        (flat_map (λ n. with_books n (middle_for state.now history.now step samples.now n))
+        (range_with_len 1 9)) }
+{
+    for number in 1..10 {
+        let pair = in_table(number);
+        best = with_filters(
+            state,
+            history,
+            step,
+            number,
+            pair.view(),
+            samples,
+            line,
+            values,
+            best,
+        );
+    }
+    best
+}
+
+/// The best so far, with the choices of the computed filter of a number, where there is one.
+fn with_computed(
+    state: &ChannelState,
+    history: &Predictor<8, 4>,
+    step: u8,
+    number: u8,
     computed: &[Filter<8>],
     samples: &[i32],
     line: &Line<'_>,
@@ -40,32 +109,66 @@ fn with_filters(
     requires few { length samples.now ≤ 160 }
     requires samples { All Is26 samples.now }
     requires whole { All (λ x. clear step x ≡ x) samples.now }
+    requires least { 10 ≤ number }
+    requires most { number ≤ 17 }
     requires computed { AreComputed step samples.now computed.now }
-    requires stateless { All (λ fir. fir.state ≡ None) computed.now }
     requires line { IsTrue line.now.narrow → IsIn step history.now samples.now line.now }
     requires room { length samples.now ≡ length values.old }
     ensures { let mid = middle_for state.now history.now step samples.now number in result
         ≡ least_from (cost_of state.now history.now step true samples.now) best
         (with_books number mid) }
 {
-    let pair = match pair_from(state, computed, number) {
-        Some(pair) => pair,
-        None => return best,
-    };
-    if !values_for(history, step, number, &pair, samples, line, values) {
+    let place = number as usize - 10;
+    if place >= computed.len() {
         return best;
     }
-    let trial = trial_of(state, 0, number, pair, values);
-    with_books(state, step, &trial, values, best)
+    let none = without();
+    let pair = PairRef {
+        fir: &computed[place],
+        iir: &none,
+    };
+    with_filters(
+        state, history, step, number, pair, samples, line, values, best,
+    )
 }
 
-/// The best of the filters of the numbers below `count`, over buffers for the block and 8 values more.
+/// The best so far, with the choices of all computed filters.
+fn with_all_computed(
+    state: &ChannelState,
+    history: &Predictor<8, 4>,
+    step: u8,
+    samples: &[i32],
+    line: &Line<'_>,
+    values: &mut [i32],
+    mut best: Option<Choice>,
+) -> Option<Choice>
+    requires state { IsChannelState state.now }
+    requires step { step ≤ 8 }
+    requires few { length samples.now ≤ 160 }
+    requires samples { All Is26 samples.now }
+    requires whole { All (λ x. clear step x ≡ x) samples.now }
+    requires line { IsTrue line.now.narrow → IsIn step history.now samples.now line.now }
+    requires room { length samples.now ≡ length values.old }
+    ensures { result ≡ least_from (cost_of state.now history.now step true samples.now) best
+        (flat_map (λ n. with_books n (middle_for state.now history.now step samples.now n))
+        (range_with_len 10 8)) }
+{
+    let mut computed = ArrayVec::new();
+    levinson_all(samples, step, &mut computed);
+    for number in 10..18 {
+        best = with_computed(
+            state, history, step, number, &computed, samples, line, values, best,
+        );
+    }
+    best
+}
+
+/// The best of the filters in force, and with `filters` of all, over buffers for the block and 8 values more.
 fn best_of(
     state: &ChannelState,
     history: &Predictor<8, 4>,
     step: u8,
-    count: u8,
-    computed: &[Filter<8>],
+    filters: bool,
     samples: &[i32],
     whole: &mut [i32],
     high: &mut [i32],
@@ -77,16 +180,18 @@ fn best_of(
     requires few { length samples.now ≤ 160 }
     requires samples { All Is26 samples.now }
     requires whole { All (λ x. clear step x ≡ x) samples.now }
-    requires computed { AreComputed step samples.now computed.now }
-    requires stateless { All (λ fir. fir.state ≡ None) computed.now }
     requires whole_room { length whole.old ≡ 8 + length samples.now }
     requires high_room { length high.old ≡ 8 + length samples.now }
     requires low_room { length low.old ≡ 8 + length samples.now }
     requires room { length samples.now ≡ length values.old }
-    ensures { result
+    ensures all { IsTrue filters → result
         ≡ least_from (cost_of state.now history.now step true samples.now) None
         (flat_map (λ n. with_books n (middle_for state.now history.now step samples.now n))
-        (range_with_len 0 count)) }
+        (range_with_len 0 18)) }
+    ensures one { filters ≡ false → result
+        ≡ least_from (cost_of state.now history.now step true samples.now) None
+        (flat_map (λ n. with_books n (middle_for state.now history.now step samples.now n))
+        (range_with_len 0 1)) }
 {
     let narrow = put_line(history, step, samples, whole, high, low);
     let line = Line {
@@ -95,13 +200,18 @@ fn best_of(
         high,
         low,
     };
-    let mut best = None;
-    for number in 0..count {
-        best = with_filters(
-            state, history, step, number, computed, samples, &line, values, best,
-        );
+    let in_force = PairRef {
+        fir: &state.fir,
+        iir: &state.iir,
+    };
+    let first = with_filters(
+        state, history, step, 0, in_force, samples, &line, values, None,
+    );
+    if !filters {
+        return first;
     }
-    best
+    let best = with_table(state, history, step, samples, &line, values, first);
+    with_all_computed(state, history, step, samples, &line, values, best)
 }
 
 /// The choice for a block of 1 to 160 samples: the first, by filter, book, low bits and offset, of those that cost least.
@@ -126,9 +236,6 @@ pub fn choose(
     ensures costs { cost_of state.now history.now step true samples.now result ≡ Some result.bits }
     ensures cheap { result.bits ≤ 34 + 26 * length samples.now }
 {
-    let mut computed = ArrayVec::new();
-    levinson_all(samples, step, &mut computed);
-    let count = if filters { 18 } else { 1 };
     let end = 8 + samples.len();
     let mut whole = [0; 168];
     let mut high = [0; 168];
@@ -138,8 +245,7 @@ pub fn choose(
         state,
         history,
         step,
-        count,
-        &computed,
+        filters,
         samples,
         &mut whole[..end],
         &mut high[..end],

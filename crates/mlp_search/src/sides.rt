@@ -28,7 +28,7 @@ pub struct Side {
 }
 
 /// No more than the bits of the parameters with an offset.
-fn base_of(state: &ChannelState, trial: &Trial, offset: i16) -> u64
+fn base_of(state: &ChannelState, trial: &Trial<'_>, offset: i16) -> u64
     requires { Writes state.now trial.now }
     ensures bits { (c : Choice) → c.filter ≡ trial.now.number → c.offset ≡ offset →
         result ≤ parameter_sum state.now trial.now.pair c }
@@ -42,7 +42,7 @@ fn base_of(state: &ChannelState, trial: &Trial, offset: i16) -> u64
 }
 
 /// The greatest folded value.
-fn top_of(trial: &Trial, values: &[i32], offset: i16) -> u64
+fn top_of(trial: &Trial<'_>, values: &[i32], offset: i16) -> u64
     requires least { trial.now.least ≡ least_of values.now }
     requires greatest { trial.now.greatest ≡ greatest_of values.now }
     ensures value { result ≡ top_of (all_folded offset values.now) }
@@ -104,7 +104,7 @@ fn twice_least(sum: u64, count: u64) -> u64
 pub(crate) fn side_of(
     state: &ChannelState,
     step: u8,
-    trial: &Trial,
+    trial: &Trial<'_>,
     values: &[i32],
     offset: i16,
 ) -> Side
@@ -138,7 +138,7 @@ pub struct Sides {
 }
 
 /// Both.
-pub(crate) fn sides_of(state: &ChannelState, step: u8, trial: &Trial, values: &[i32]) -> Sides
+pub(crate) fn sides_of(state: &ChannelState, step: u8, trial: &Trial<'_>, values: &[i32]) -> Sides
     requires trial { IsTrial state.now 0 values.now trial.now }
     requires few { length values.now ≤ 160 }
     ensures { AreSides state.now step trial.now values.now result }

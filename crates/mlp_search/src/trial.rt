@@ -10,15 +10,15 @@ ghost use Rattle.mlp_search.specs.Cost.{filter_bits, fir_bits, iir_bits};
 ghost use Rattle.mlp_search.specs.Trial.{IsTrial};
 
 use crate::giving::{fir_stays, iir_stays};
-use crate::pair::Pair;
+use crate::pair::PairRef;
 use mlp_params::ChannelState;
 use mlp_syntax::Filter;
 
 /// The filters of a number over a block.
 #[derive(Drop)]
-pub struct Trial {
+pub struct Trial<'a> {
     pub number: u8,
-    pub pair: Pair,
+    pub pair: PairRef<'a>,
     /// Whether they are written nowhere.
     pub stays: bool,
     /// The bits of both filters where they are written.
@@ -45,18 +45,18 @@ fn filter_bits<const N: usize>(filter: &Filter<N>) -> u16
 }
 
 /// How many bits a FIR takes, where it is written.
-fn fir_bits(state: &ChannelState, number: u8, pair: &Pair) -> u16
+fn fir_bits(state: &ChannelState, number: u8, pair: &PairRef<'_>) -> u16
     ensures value { result ≡ fir_bits (fir_given state.now number pair.now) }
     ensures few { result ≤ 2057 }
 {
     if fir_stays(state, number, pair) {
         return 0;
     }
-    filter_bits(&pair.fir)
+    filter_bits(pair.fir)
 }
 
 /// How many bits an IIR takes, where it is written.
-fn iir_bits(state: &ChannelState, number: u8, pair: &Pair) -> u16
+fn iir_bits(state: &ChannelState, number: u8, pair: &PairRef<'_>) -> u16
     ensures value { result ≡ iir_bits (iir_given state.now number pair.now) }
     ensures few { result ≤ 2065 }
 {
@@ -66,7 +66,7 @@ fn iir_bits(state: &ChannelState, number: u8, pair: &Pair) -> u16
     if pair.iir.coeffs.is_empty() {
         return 4;
     }
-    filter_bits(&pair.iir) + 8
+    filter_bits(pair.iir) + 8
 }
 
 /// The lesser of a value and a residual in quantisation steps.
@@ -154,13 +154,13 @@ fn middle_of(least: i32, greatest: i32) -> i16
 }
 
 /// The filters of a number, which leave these residuals.
-pub(crate) fn trial_of(
+pub(crate) fn trial_of<'a>(
     state: &ChannelState,
     step: u8,
     number: u8,
-    pair: Pair,
+    pair: PairRef<'a>,
     residuals: &[i32],
-) -> Trial
+) -> Trial<'a>
     requires pair { IsPair pair }
     requires step { step ≤ 8 }
     ensures trial { IsTrial state.now step residuals.now result }

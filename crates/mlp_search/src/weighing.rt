@@ -89,7 +89,7 @@ pub(crate) fn choice_of(filter: u8, book: u8, low: u8, offset: i16) -> Choice
 fn cost_with_codes(
     state: &ChannelState,
     step: u8,
-    trial: &Trial,
+    trial: &Trial<'_>,
     tally: &Option<Tally>,
     values: &[i32],
     choice: &Choice,
@@ -117,7 +117,7 @@ fn cost_with_codes(
 fn tried(
     state: &ChannelState,
     step: u8,
-    trial: &Trial,
+    trial: &Trial<'_>,
     side: &Side,
     tally: &Option<Tally>,
     values: &[i32],
@@ -155,7 +155,7 @@ fn tried(
 fn with_offsets(
     state: &ChannelState,
     step: u8,
-    trial: &Trial,
+    trial: &Trial<'_>,
     sides: &Sides,
     tallies: &Tallies,
     values: &[i32],
@@ -222,7 +222,7 @@ fn first_low(step: u8, sides: &Sides, book: u8) -> u8
 fn with_lows(
     state: &ChannelState,
     step: u8,
-    trial: &Trial,
+    trial: &Trial<'_>,
     sides: &Sides,
     tallies: &Tallies,
     values: &[i32],
@@ -254,7 +254,7 @@ fn with_lows(
 fn with_codebooks(
     state: &ChannelState,
     step: u8,
-    trial: &Trial,
+    trial: &Trial<'_>,
     sides: &Sides,
     values: &[i32],
     mut best: Option<Choice>,
@@ -285,7 +285,7 @@ fn with_codebooks(
 pub(crate) fn with_books(
     state: &ChannelState,
     step: u8,
-    trial: &Trial,
+    trial: &Trial<'_>,
     values: &[i32],
     best: Option<Choice>,
 ) -> Option<Choice>

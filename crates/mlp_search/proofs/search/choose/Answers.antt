@@ -1,34 +1,17 @@
-use Rattle.std.proofs.Common.{◌≡◌, ◌+◌, ◌*◌, ◌≤◌, true, false, None, List, length, arith, sym, subst, ap, ◌∙◌}
-use Rattle.std.specs.Prelude.{All, slice_get, unwrap_or}
-use Rattle.mlp_syntax.specs.declared.params.Filter.{Filter}
-use Rattle.mlp_search.proofs.ComputedPairs.{computed_stateless}
+use Rattle.std.proofs.Common.{◌≡◌, ◌+◌, ◌*◌, ◌≤◌, length, sym, subst, ap, ◌∙◌}
+use Rattle.std.specs.Prelude.{unwrap_or}
 use Rattle.mlp_search.specs.declared.choice.Choice.{Choice}
 use Rattle.mlp_search.specs.Cost.{cost_of}
 use Rattle.mlp_search.specs.Least.{chosen, IsLeast}
 use Rattle.mlp_search.proofs.ChosenLaws.{chosen_least, chosen_cheap}
 use Rattle.mlp_search.proofs.SearchLaws.{found_is, cost_widens}
 use Rattle.mlp_search.proofs.search.choose.Goals as goal
-use Rattle.mlp_search.proofs.search.choose.Goals.{then-filters, else-filters}
-
-pub best_of-best-requires-clause-computed : goal.best_of-best-requires-clause-computed
-best_of-best-requires-clause-computed c = λ m lt. ap (λ (firs : List (Filter 8)). slice_get firs m) c.deref.ensures.0 ∙ c.levinson_all.ensures m lt
-
-pub best_of-best-requires-clause-stateless : goal.best_of-best-requires-clause-stateless
-best_of-best-requires-clause-stateless c =
-    subst (λ (firs : List (Filter 8)). All (λ f. f.state ≡ None) firs) (sym c.deref.ensures.0)
-    (computed_stateless c.args.step c.args.samples.now c.levinson_all.new.out.items (omega (arith, ap (λ (firs : List (Filter 8)). length firs) c.deref.ensures.0, c.deref.ensures.1)) c.levinson_all.ensures)
 
 is_chosen : (c : goal.After-unwrap_or) → c.unwrap_or.result ≡ chosen c.args.state.now c.args.history.now c.args.step c.args.filters c.args.samples.now
 is_chosen c =
-    let all : c.args.filters ≡ true → c.if-filters.count ≡ 18 =
-    λ e. elim c.if-filters.branch [ then-filters w ↦ w.count-is | else-filters w ↦ absurd (let s : true ≡ false = sym e ∙ w.if-filters.false in cc) ]
-    in
-    let one : c.args.filters ≡ false → c.if-filters.count ≡ 1 =
-    λ e. elim c.if-filters.branch [ then-filters w ↦ absurd (let s : true ≡ false = sym w.if-filters.true ∙ e in cc) | else-filters w ↦ w.count-is ]
-    in
     c.unwrap_or.ensures
     ∙ ap (unwrap_or c.best_of-best.result) c.choice_of.ensures
-    ∙ found_is c.args.state.now c.args.history.now c.args.step c.args.samples.now c.args.filters c.if-filters.count c.best_of-best.result all one c.best_of-best.ensures
+    ∙ found_is c.args.state.now c.args.history.now c.args.step c.args.samples.now c.args.filters c.best_of-best.result c.best_of-best.ensures.all c.best_of-best.ensures.one
 
 is_least : (c : goal.After-unwrap_or) → IsLeast (cost_of c.args.state.now c.args.history.now c.args.step c.args.filters c.args.samples.now) c.unwrap_or.result
 is_least c =

@@ -1,0 +1,9 @@
+use Rattle.std.proofs.Common.{◌≡◌, true, arith}
+use Rattle.mlp_search.specs.Cost.{cost_of}
+use Rattle.mlp_search.specs.Least.{with_books, middle_for}
+use Rattle.mlp_search.proofs.Scanning.{scan_more_from}
+use Rattle.mlp_search.proofs.search.with_all_computed.Goals as goal
+
+pub loop-number-preserved : goal.loop-number-preserved
+loop-number-preserved c =
+    scan_more_from (cost_of c.args.state.now c.args.history.now c.args.step true c.args.samples.now) (λ n. with_books n (middle_for c.args.state.now c.args.history.now c.args.step c.args.samples.now n)) c.args.best c.loop-number.best c.with_computed-best.result 10 c.loop-number.number (omega arith) c.loop-number.invariant c.with_computed-best.ensures
