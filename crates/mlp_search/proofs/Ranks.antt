@@ -205,21 +205,23 @@ module _ (cost : Choice → Option ℕ) (mid : ℕ → ℤ) (is : IsCost cost mi
       range_best (with_lows filter (mid filter)) (filter * 256) 64 4 (λ book o lt k. lows_best filter book o lt k) 4 best (omega arith) h
 
   -- the best of filter 0 costs no more than any of its choices
-  pub first_within : (best : Option Choice) → IsBest cost 0 None → best ≡ least_from cost None (with_books 0 (mid 0)) → IsWithinFirst cost best
-  first_within best none e = subst (λ (b : Option Choice). IsWithinFirst cost b) (sym e) (within (least_from cost None (with_books 0 (mid 0))) (books_best 0 None none))
+  pub first_within : (best : Option Choice) → best ≡ least_from cost None (with_books 0 (mid 0)) → IsWithinFirst cost best
+  first_within best e =
+      let none : IsBest cost (0 * 256) None = λ d n costs below. absurd (omega (arith, below)) in
+      subst (λ (b : Option Choice). IsWithinFirst cost b) (sym e) (within (least_from cost None (with_books 0 (mid 0))) (books_best 0 None none))
     where
       below : (c : Choice) (n : ℕ) → c.filter ≡ 0 → cost c ≡ Some n → rank c < 256
-      below c n zero costs =
+      below c n first costs =
           let b = is.book c n costs in
           let l = is.low c n costs in
           elim (rank_parts c) [
-            | inl p ↦ omega (arith, p.1, zero, b, l)
-            | inr p ↦ omega (arith, p.1, zero, b, l)
+            | inl p ↦ omega (arith, p.1, first, b, l)
+            | inr p ↦ omega (arith, p.1, first, b, l)
           ]
 
       within : (o : Option Choice) → IsBest cost (0 * 256 + 256) o → IsWithinFirst cost o
-      within None h = λ c n zero costs. absurd (h c n costs (below c n zero costs))
-      within (Some b) h = λ c n zero costs. le-ltb n b.bits (h.least c n costs (below c n zero costs))
+      within None h = λ c n first costs. absurd (h c n costs (below c n first costs))
+      within (Some b) h = λ c n first costs. le-ltb n b.bits (h.least c n costs (below c n first costs))
 
   pub filters_best : (best : Option Choice) → IsBest cost 0 best → IsBest cost 4608 (least_from cost best (flat_map (λ n. with_books n (mid n)) (range_with_len 0 18)))
   filters_best best h =

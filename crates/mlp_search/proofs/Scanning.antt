@@ -28,10 +28,6 @@ scan_more cost f start best next n e is =
     ∙ sym (least_from-append cost start (flat_map f (range_with_len 0 n)) (f n))
     ∙ ap (least_from cost start) (sym (range_more f n))
 
--- .. and has come to its end
-pub scan_done : (cost : Choice → Option ℕ) (f : ℕ → List Choice) (start best : Option Choice) (n m : ℕ) → n ≡ m → best ≡ least_from cost start (flat_map f (range_with_len 0 n)) → best ≡ least_from cost start (flat_map f (range_with_len 0 m))
-scan_done cost f start best n m same e = e ∙ ap (λ (k : ℕ). least_from cost start (flat_map f (range_with_len 0 k))) same
-
 -- ---- what holds of each choice of a list
 
 abbrev pub Along : (Choice → Type 0) → List Choice → Type 0
@@ -114,14 +110,17 @@ pub scan_joined : (cost : Choice → Option ℕ) (f : ℕ → List Choice) (star
 scan_joined cost f start first best n e is = is ∙ ap (λ (b : Option Choice). least_from cost b (flat_map f (range_with_len 1 n))) e ∙ sym (least_from-append cost start (f 0) (flat_map f (range_with_len 1 n)))
 
 -- two scans one behind the other
-pub scan_continued : (cost : Choice → Option ℕ) (f : ℕ → List Choice) (start first best : Option Choice) (m n : ℕ) → first ≡ least_from cost start (flat_map f (range_with_len 0 m)) → best ≡ least_from cost first (flat_map f (range_with_len m n))
-    → best ≡ least_from cost start (flat_map f (range_with_len 0 (m + n)))
-scan_continued cost f start first best m n e is =
-    let from : zero + m ≡ m = omega arith in
+pub scan_continued : (cost : Choice → Option ℕ) (f : ℕ → List Choice) (start first best : Option Choice) (a m n : ℕ) → first ≡ least_from cost start (flat_map f (range_with_len a m)) → best ≡ least_from cost first (flat_map f (range_with_len (a + m) n))
+    → best ≡ least_from cost start (flat_map f (range_with_len a (m + n)))
+scan_continued cost f start first best a m n e is =
     is
-    ∙ ap (λ (b : Option Choice). least_from cost b (flat_map f (range_with_len m n))) e
-    ∙ sym (least_from-append cost start (flat_map f (range_with_len 0 m)) (flat_map f (range_with_len m n)))
-    ∙ ap (least_from cost start) (ap (λ (k : ℕ). flat_map f (range_with_len 0 m) ++ flat_map f (range_with_len k n)) (sym from) ∙ sym (range_parts f 0 m n))
+    ∙ ap (λ (b : Option Choice). least_from cost b (flat_map f (range_with_len (a + m) n))) e
+    ∙ sym (least_from-append cost start (flat_map f (range_with_len a m)) (flat_map f (range_with_len (a + m) n)))
+    ∙ ap (least_from cost start) (sym (range_parts f a m n))
+
+-- a scan from a number on that has come to its end
+pub scan_ends : (cost : Choice → Option ℕ) (f : ℕ → List Choice) (start best : Option Choice) (a n m : ℕ) → n ≡ a + m → best ≡ least_from cost start (flat_map f (range_with_len a (n - a))) → best ≡ least_from cost start (flat_map f (range_with_len a m))
+scan_ends cost f start best a n m same e = let count : n - a ≡ m = omega (arith, same) in e ∙ ap (λ (k : ℕ). least_from cost start (flat_map f (range_with_len a k))) count
 
 -- the first number alone
 pub scan_first : (cost : Choice → Option ℕ) (f : ℕ → List Choice) (start best : Option Choice) → best ≡ least_from cost start (f 0) → best ≡ least_from cost start (flat_map f (range_with_len 0 1))

@@ -172,12 +172,11 @@ module _ (force : ChannelState) (past : Past) (step : ℕ) (samples : List ℤ) 
 
   -- what is found among the filters that are looked at is the choice
   pub found_is : (filters : Bool) (best : Option Choice)
-      → (filters ≡ true → best ≡ least_from (cost_of force past step true samples) None (flat_map (λ n. with_books n (middle_for force past step samples n)) (range_with_len 0 18)))
-      → (filters ≡ false → best ≡ least_from (cost_of force past step true samples) None (flat_map (λ n. with_books n (middle_for force past step samples n)) (range_with_len 0 1)))
+      → best ≡ least_from (cost_of force past step true samples) None (flat_map (λ n. with_books n (middle_for force past step samples n)) (range_with_len 0 (if filters then 18 else 1)))
       → unwrap_or best (choice_of 0 0 0 (pos 0)) ≡ chosen force past step filters samples
   unfolding chosen choices
-  found_is true best all one = ap (λ (o : Option Choice). unwrap_or o (choice_of 0 0 0 (pos 0))) (all refl)
-  found_is false best all one = ap (λ (o : Option Choice). unwrap_or o (choice_of 0 0 0 (pos 0))) (one refl ∙ sym first_alone)
+  found_is true best e = ap (λ (o : Option Choice). unwrap_or o (choice_of 0 0 0 (pos 0))) e
+  found_is false best e = ap (λ (o : Option Choice). unwrap_or o (choice_of 0 0 0 (pos 0))) (e ∙ sym first_alone)
 
 -- ---- a choice with a cost
 

@@ -1,5 +1,5 @@
 -- Filters that are passed over: those that write nothing, and those whose parameters alone take too many bits.
-use Rattle.std.proofs.Common.{◌≡◌, ℕ, ◌+◌, ◌-◌, ◌*◌, ◌<◌, ◌≤◌, ℤ, pos, Bool, true, false, List, replicate, Option, Some, None, arith, refl, sym, ◌∙◌, ap, subst}
+use Rattle.std.proofs.Common.{◌≡◌, ℕ, ◌+◌, ◌-◌, ◌*◌, ◌<◌, ◌≤◌, ℤ, pos, Bool, true, false, List, length, replicate, Option, Some, None, arith, refl, sym, ◌∙◌, ap, subst}
 use Rattle.std.specs.Prelude.{◌==◌, ◌&&◌, ◌||◌, nat_le, IfSome, if◌then◌else◌}
 use Rattle.std.specs.List.{list_all, flat_map, range_with_len}
 use Rattle.std.specs.Option.{option_map}
@@ -132,7 +132,7 @@ module _ (force : ChannelState) (past : Past) (step : ℕ) (samples : List ℤ) 
 
 -- what costs no more than each choice of filter 0 still does so behind other choices
 pub still_within : (cost : Choice → Option ℕ) (best next : Option Choice) (cs : List Choice) → next ≡ least_from cost best cs → IsWithinFirst cost best → IsWithinFirst cost next
-still_within cost best next cs e first = λ c n zero is. subst (λ (b : Option Choice). is_better n b ≡ false) (sym e) (never_again cost n best cs (first c n zero is))
+still_within cost best next cs e first = λ c n at is. subst (λ (b : Option Choice). is_better n b ≡ false) (sym e) (never_again cost n best cs (first c n at is))
 
 -- ---- computed filters
 

@@ -2,6 +2,8 @@
 use Rattle.std.specs.Prelude.{◌≡◌, ℕ, ◌+◌, ◌*◌, ◌^◌, ◌<◌, ◌≤◌, ◌&&◌, true, List, length, map, ℤ, pos}
 use Rattle.mlp_arith.specs.Words.{floor_by}
 use Rattle.mlp_params.specs.declared.state.ChannelState.{ChannelState}
+use Rattle.mlp_search.specs.declared.pair.Pair.{Pair}
+use Rattle.mlp_search.specs.declared.trial.Writing.{Writing}
 use Rattle.mlp_search.specs.declared.trial.Trial.{Trial}
 use Rattle.mlp_search.specs.declared.sides.Side.{Side}
 use Rattle.mlp_search.specs.declared.sides.Sides.{Sides}
@@ -10,6 +12,11 @@ use Rattle.mlp_search.specs.Candidates.{least_of, greatest_of, middle_of}
 use Rattle.mlp_search.specs.Folded.{stepped, all_folded, top_of, all_symbol_bits, raised_sum}
 use Rattle.mlp_search.specs.Given.{IsPair, fir_stays, iir_stays, fir_given, iir_given}
 use Rattle.mlp_search.specs.Cost.{fir_bits, iir_bits, is_offset, parameter_sum}
+
+-- what the filters of a number write
+pub record IsWriting (force : ChannelState) (n : ℕ) (pair : Pair) (w : Writing) : Type 0 where
+  pub stays : w.stays ≡ (fir_stays force n pair && iir_stays force n pair)
+  pub bits : w.bits ≡ fir_bits (fir_given force n pair) + iir_bits (iir_given force n pair)
 
 -- what it says of its filters is what they write
 pub record Writes (force : ChannelState) (t : Trial) : Type 0 where

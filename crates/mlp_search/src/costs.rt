@@ -13,7 +13,7 @@ use crate::choice::Choice;
 use crate::giving::codes_alike;
 use crate::pair::pair_of;
 use crate::reduction::residuals_for;
-use crate::trial::{Trial, trial_of};
+use crate::trial::{Trial, trial_of, writing_of};
 use mlp_params::ChannelState;
 use mlp_predict::Predictor;
 use mlp_residual::bits_of;
@@ -120,6 +120,7 @@ pub fn cost(
     if !residuals_for(history, step, choice.filter, &view, samples, residuals) {
         return None;
     }
-    let trial = trial_of(state, step, choice.filter, view, residuals);
+    let writing = writing_of(state, choice.filter, &view);
+    let trial = trial_of(step, choice.filter, view, &writing, residuals);
     cost_over(state, step, &trial, residuals, choice)
 }

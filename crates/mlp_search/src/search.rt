@@ -1,6 +1,6 @@
 //! The choice for a block.
 
-ghost use Rattle.std.specs.Prelude.{◌≡◌, ◌≤◌, ◌*◌, ◌+◌, length, All, IsTrue, true, false, Some, None};
+ghost use Rattle.std.specs.Prelude.{◌≡◌, ◌≤◌, ◌<◌, ◌*◌, ◌+◌, length, All, IsTrue, true, false, Some, None, if◌then◌else◌};
 ghost use Rattle.std.specs.List.{flat_map, range_with_len};
 ghost use Rattle.mlp_arith.specs.Words.{clear};
 ghost use Rattle.mlp_arith.specs.Ranges.{Is26};
@@ -9,19 +9,32 @@ ghost use Rattle.mlp_params.specs.States.{IsChannelState};
 ghost use Rattle.mlp_search.specs.Candidates.{AreComputed, pair_of};
 ghost use Rattle.mlp_search.specs.Cost.{cost_of};
 ghost use Rattle.mlp_search.specs.Lines.{IsIn};
-ghost use Rattle.mlp_search.specs.Least.{least_from, with_books, middle_for, chosen, IsLeast};
+ghost use Rattle.mlp_search.specs.Least.{IsWithinFirst, is_better, least_from, with_books, middle_for, chosen, IsLeast};
 
 use crate::choice::Choice;
 use crate::line::{Line, put_line};
 use crate::pair::{PairRef, in_table, without};
 use crate::reduction::values_for;
-use crate::trial::trial_of;
-use crate::weighing::{choice_of, with_books};
+use crate::trial::{Writing, trial_of, writing_of};
+use crate::weighing::{choice_of, is_better, with_books};
 use arrayvec::ArrayVec;
 use mlp_levinson::levinson_all;
 use mlp_params::ChannelState;
 use mlp_predict::Predictor;
 use mlp_syntax::Filter;
+
+/// Whether the filters of a number, which write this, leave the best so far as it is: they write nothing, as filter 0,
+/// or too many bits.
+fn is_hopeless(number: u8, writing: &Writing, best: Option<Choice>) -> bool
+    ensures stays { IsTrue result → writing.now.stays ≡ true → 1 ≤ number }
+    ensures bits { IsTrue result → writing.now.stays ≡ false →
+        is_better (11 + writing.now.bits) best ≡ false }
+{
+    if writing.stays {
+        return number > 0;
+    }
+    !is_better(11 + u64::from(writing.bits), best)
+}
 
 /// The best so far, with the choices of the filters of a number.
 fn with_filters(
@@ -41,16 +54,22 @@ fn with_filters(
     requires samples { All Is26 samples.now }
     requires whole { All (λ x. clear step x ≡ x) samples.now }
     requires pair { pair_of state.now step samples.now number ≡ Some pair }
+    requires first { 1 ≤ number →
+        IsWithinFirst (cost_of state.now history.now step true samples.now) best }
     requires line { IsTrue line.now.narrow → IsIn step history.now samples.now line.now }
     requires room { length samples.now ≡ length values.old }
     ensures { let mid = middle_for state.now history.now step samples.now number in result
         ≡ least_from (cost_of state.now history.now step true samples.now) best
         (with_books number mid) }
 {
+    let writing = writing_of(state, number, &pair);
+    if is_hopeless(number, &writing, best) {
+        return best;
+    }
     if !values_for(history, step, number, &pair, samples, line, values) {
         return best;
     }
-    let trial = trial_of(state, 0, number, pair, values);
+    let trial = trial_of(0, number, pair, &writing, values);
     with_books(state, step, &trial, values, best)
 }
 
@@ -69,6 +88,7 @@ fn with_table(
     requires few { length samples.now ≤ 160 }
     requires samples { All Is26 samples.now }
     requires whole { All (λ x. clear step x ≡ x) samples.now }
+    requires first { IsWithinFirst (cost_of state.now history.now step true samples.now) best }
     requires line { IsTrue line.now.narrow → IsIn step history.now samples.now line.now }
     requires room { length samples.now ≡ length values.old }
     ensures { result ≡ least_from (cost_of state.now history.now step true samples.now) best
@@ -112,6 +132,7 @@ fn with_computed(
     requires least { 10 ≤ number }
     requires most { number ≤ 17 }
     requires computed { AreComputed step samples.now computed.now }
+    requires first { IsWithinFirst (cost_of state.now history.now step true samples.now) best }
     requires line { IsTrue line.now.narrow → IsIn step history.now samples.now line.now }
     requires room { length samples.now ≡ length values.old }
     ensures { let mid = middle_for state.now history.now step samples.now number in result
@@ -147,6 +168,7 @@ fn with_all_computed(
     requires few { length samples.now ≤ 160 }
     requires samples { All Is26 samples.now }
     requires whole { All (λ x. clear step x ≡ x) samples.now }
+    requires first { IsWithinFirst (cost_of state.now history.now step true samples.now) best }
     requires line { IsTrue line.now.narrow → IsIn step history.now samples.now line.now }
     requires room { length samples.now ≡ length values.old }
     ensures { result ≡ least_from (cost_of state.now history.now step true samples.now) best
@@ -161,6 +183,43 @@ fn with_all_computed(
         );
     }
     best
+}
+
+/// No more than the bits of a computed filter. Where it is the one in force, the end of an IIR is written.
+fn least_computed(state: &ChannelState) -> u64
+    ensures most { result ≤ 29 }
+    ensures less { 0 < order_of state.now.iir → result ≤ 15 }
+{
+    if state.iir.coeffs.is_empty() { 29 } else { 15 }
+}
+
+/// The best so far, with the choices of all filters behind those in force.
+fn with_others(
+    state: &ChannelState,
+    history: &Predictor<8, 4>,
+    step: u8,
+    samples: &[i32],
+    line: &Line<'_>,
+    values: &mut [i32],
+    first: Option<Choice>,
+) -> Option<Choice>
+    requires state { IsChannelState state.now }
+    requires step { step ≤ 8 }
+    requires few { length samples.now ≤ 160 }
+    requires samples { All Is26 samples.now }
+    requires whole { All (λ x. clear step x ≡ x) samples.now }
+    requires first { IsWithinFirst (cost_of state.now history.now step true samples.now) first }
+    requires line { IsTrue line.now.narrow → IsIn step history.now samples.now line.now }
+    requires room { length samples.now ≡ length values.old }
+    ensures { result ≡ least_from (cost_of state.now history.now step true samples.now) first
+        (flat_map (λ n. with_books n (middle_for state.now history.now step samples.now n))
+        (range_with_len 1 17)) }
+{
+    let best = with_table(state, history, step, samples, line, values, first);
+    if !is_better(least_computed(state), best) {
+        return best;
+    }
+    with_all_computed(state, history, step, samples, line, values, best)
 }
 
 /// The best of the filters in force, and with `filters` of all, over buffers for the block and 8 values more.
@@ -184,14 +243,9 @@ fn best_of(
     requires high_room { length high.old ≡ 8 + length samples.now }
     requires low_room { length low.old ≡ 8 + length samples.now }
     requires room { length samples.now ≡ length values.old }
-    ensures all { IsTrue filters → result
-        ≡ least_from (cost_of state.now history.now step true samples.now) None
+    ensures { result ≡ least_from (cost_of state.now history.now step true samples.now) None
         (flat_map (λ n. with_books n (middle_for state.now history.now step samples.now n))
-        (range_with_len 0 18)) }
-    ensures one { filters ≡ false → result
-        ≡ least_from (cost_of state.now history.now step true samples.now) None
-        (flat_map (λ n. with_books n (middle_for state.now history.now step samples.now n))
-        (range_with_len 0 1)) }
+        (range_with_len 0 (if filters then 18 else 1))) }
 {
     let narrow = put_line(history, step, samples, whole, high, low);
     let line = Line {
@@ -210,8 +264,7 @@ fn best_of(
     if !filters {
         return first;
     }
-    let best = with_table(state, history, step, samples, &line, values, first);
-    with_all_computed(state, history, step, samples, &line, values, best)
+    with_others(state, history, step, samples, &line, values, first)
 }
 
 /// The choice for a block of 1 to 160 samples: the first, by filter, book, low bits and offset, of those that cost least.

@@ -1,18 +1,27 @@
 //! The filters of a number on trial: what they write, and the middle of what they leave.
 
-ghost use Rattle.std.specs.Prelude.{◌≡◌, ◌≤◌, ◌<◌, ◌&&◌, ◌+◌, ◌+ℤ◌, length, map, slice_index_or, pos, neg_ℤ, ◌≤ℤ◌};
+ghost use Rattle.std.specs.Prelude.{◌≡◌, ◌≤◌, ◌<◌, ◌+◌, ◌+ℤ◌, Some, None, if◌then◌else◌, length, map, slice_index_or, pos, neg_ℤ, ◌≤ℤ◌};
 ghost use Rattle.std.specs.Int.{int_min, int_max};
 ghost use Rattle.mlp_arith.specs.Words.{floor_by};
-ghost use Rattle.mlp_params.specs.States.{IsChannelState};
 ghost use Rattle.mlp_search.specs.Candidates.{least_of, greatest_of, limited, middle_of};
-ghost use Rattle.mlp_search.specs.Given.{IsPair, fir_stays, iir_stays, fir_given, iir_given};
+ghost use Rattle.mlp_params.specs.declared.state.ChannelState.{ChannelState};
+ghost use Rattle.mlp_search.specs.Given.{IsPair, with_zeros};
 ghost use Rattle.mlp_search.specs.Cost.{filter_bits, fir_bits, iir_bits};
-ghost use Rattle.mlp_search.specs.Trial.{IsTrial};
+ghost use Rattle.mlp_search.specs.Trial.{IsWriting, IsTrial};
 
 use crate::giving::{fir_stays, iir_stays};
 use crate::pair::PairRef;
 use mlp_params::ChannelState;
 use mlp_syntax::Filter;
+
+/// What filters of a number write.
+#[derive(Drop)]
+pub struct Writing {
+    /// Whether nothing is written.
+    pub stays: bool,
+    /// The bits of both filters where they are written.
+    pub bits: u16,
+}
 
 /// The filters of a number over a block.
 #[derive(Drop)]
@@ -45,28 +54,37 @@ fn filter_bits<const N: usize>(filter: &Filter<N>) -> u16
 }
 
 /// How many bits a FIR takes, where it is written.
-fn fir_bits(state: &ChannelState, number: u8, pair: &PairRef<'_>) -> u16
-    ensures value { result ≡ fir_bits (fir_given state.now number pair.now) }
+fn fir_bits(stays: bool, fir: &Filter<8>) -> u16
+    ensures value { result ≡ fir_bits (if stays then None else Some fir.now) }
     ensures few { result ≤ 2057 }
 {
-    if fir_stays(state, number, pair) {
-        return 0;
-    }
-    filter_bits(pair.fir)
+    if stays { 0 } else { filter_bits(fir) }
 }
 
 /// How many bits an IIR takes, where it is written.
-fn iir_bits(state: &ChannelState, number: u8, pair: &PairRef<'_>) -> u16
-    ensures value { result ≡ iir_bits (iir_given state.now number pair.now) }
+fn iir_bits(stays: bool, iir: &Filter<4>) -> u16
+    ensures value { result ≡ iir_bits (if stays then None else Some (with_zeros iir.now)) }
     ensures few { result ≤ 2065 }
 {
-    if iir_stays(state, number, pair) {
+    if stays {
         return 0;
     }
-    if pair.iir.coeffs.is_empty() {
+    if iir.coeffs.is_empty() {
         return 4;
     }
-    filter_bits(pair.iir) + 8
+    filter_bits(iir) + 8
+}
+
+/// What the filters of a number write.
+pub(crate) fn writing_of(state: &ChannelState, number: u8, pair: &PairRef<'_>) -> Writing
+    ensures { IsWriting state.now number pair.now result }
+{
+    let fir_stays = fir_stays(state, number, pair);
+    let iir_stays = iir_stays(state, number, pair);
+    Writing {
+        stays: fir_stays && iir_stays,
+        bits: fir_bits(fir_stays, pair.fir) + iir_bits(iir_stays, pair.iir),
+    }
 }
 
 /// The lesser of a value and a residual in quantisation steps.
@@ -155,28 +173,27 @@ fn middle_of(least: i32, greatest: i32) -> i16
 
 /// The filters of a number, which leave these residuals.
 pub(crate) fn trial_of<'a>(
-    state: &ChannelState,
     step: u8,
     number: u8,
     pair: PairRef<'a>,
+    writing: &Writing,
     residuals: &[i32],
 ) -> Trial<'a>
     requires pair { IsPair pair }
     requires step { step ≤ 8 }
-    ensures trial { IsTrial state.now step residuals.now result }
+    ensures trial { (force : ChannelState) → IsWriting force number pair.entry writing.now →
+        IsTrial force step residuals.now result }
     ensures number { result.number ≡ number }
-    ensures pair { result.pair ≡ pair }
+    ensures pair { result.pair ≡ pair.entry }
 {
-    let stays = fir_stays(state, number, &pair) && iir_stays(state, number, &pair);
-    let bits = fir_bits(state, number, &pair) + iir_bits(state, number, &pair);
     let least = least_of(step, residuals);
     let greatest = greatest_of(step, residuals);
     let middle = middle_of(least, greatest);
     Trial {
         number,
         pair,
-        stays,
-        bits,
+        stays: writing.stays,
+        bits: writing.bits,
         least,
         greatest,
         middle,

@@ -18,7 +18,7 @@ use crate::trial::Trial;
 use mlp_params::ChannelState;
 
 /// Whether a choice that costs so much comes in the place of the best so far.
-fn is_better(bits: u64, best: Option<Choice>) -> bool
+pub(crate) fn is_better(bits: u64, best: Option<Choice>) -> bool
     ensures { result ≡ is_better bits best }
 {
     match best {
