@@ -23,7 +23,7 @@ use Rattle.mlp_search.specs.Folded.{folded, symbol_bits}
 abbrev spelled : ℕ → ℕ → ℕ
 spelled book s = length ((symbol_in book).spelling s)
 
-same_at : (f g : ℕ → ℕ) (n : ℕ) → map f (range_with_len 0 n) ≡ map g (range_with_len 0 n) → (i : ℕ) → i < n → f i ≡ g i
+pub same_at : (f g : ℕ → ℕ) (n : ℕ) → map f (range_with_len 0 n) ≡ map g (range_with_len 0 n) → (i : ℕ) → i < n → f i ≡ g i
 same_at f g n e i h =
     sym (get_or-map-range_with_len f 0 n i i 0 h (omega arith)) ∙ ap (λ (xs : List ℕ). get_or xs i 0) e ∙ get_or-map-range_with_len g 0 n i i 0 h (omega arith)
 
@@ -153,7 +153,7 @@ quotient_below s d u some lt =
     in
     omega (arith, whole, rest, parts)
 
-quotient_above : (s d u : ℕ) → s ≤ u / d → s * d ≤ u
+pub quotient_above : (s d u : ℕ) → s ≤ u / d → s * d ≤ u
 quotient_above s d u le =
     let whole : u / d * d + u % d ≡ u = div-add-mod' u d in
     let parts : u / d * d ≡ (u / d - s) * d + s * d = ap (λ (k : ℕ). k * d) (let e : u / d ≡ u / d - s + s = omega (arith, le) in e) ∙ omega arith in

@@ -19,6 +19,7 @@ pub mod Wholes
 pub mod ComputedPairs
 pub mod BoundLaws
 pub mod FoldSteps
+pub mod SumLaws
 pub mod KeptLaws
 pub mod LineLaws
 pub mod LineFits

@@ -12,6 +12,7 @@ mod pair;
 mod reduction;
 mod search;
 mod sides;
+mod sums;
 mod tally;
 mod trial;
 mod weighing;

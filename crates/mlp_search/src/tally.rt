@@ -1,78 +1,79 @@
 //! The bits of symbols in several books and with several numbers of low bits, by one pass over the values.
 
-ghost use Rattle.std.specs.Prelude.{◌≡◌, ℕ, ◌≤◌, ◌<◌, ◌+◌, ◌/◌, ◌^◌, List, length, ℤ, IfSome};
-ghost use Rattle.mlp_search.specs.Folded.{symbol_bits, all_folded, top_of, all_symbol_bits};
-ghost use Rattle.mlp_search.specs.Tally.{IsTally};
+ghost use Rattle.std.specs.Prelude.{◌≡◌, ℕ, ◌≤◌, ◌<◌, ◌+◌, ◌*◌, ◌/◌, ◌^◌, List, length, ℤ, IfSome};
+ghost use Rattle.mlp_search.specs.Folded.{all_folded, top_of, all_symbol_bits};
+ghost use Rattle.mlp_search.specs.Tally.{IsTally, IsCounted};
 
-use crate::folds::{moved, symbol_bits, symbol_sum};
+use crate::folds::symbol_sum;
 use crate::sides::Side;
+use crate::sums::sums_of;
 
-/// The bits that the symbols of all values take: in book 1 with `low` low bits and with 1 and 2 more, in book 2 with 1
-/// and 2 more, and in book 3 with 1, 2 and 3 more.
+/// The bits that the symbols of all values take: in book 1 with 1 low bit less than `low`, with `low` and with 1 more, in
+/// book 2 with `low` low bits and 1 more, and in book 3 with `low`, 1 more and 2 more.
 #[derive(Drop)]
 pub struct Tally {
     pub low: u8,
+    pub first_before: u32,
     pub first_0: u32,
     pub first_1: u32,
-    pub first_2: u32,
+    pub second_0: u32,
     pub second_1: u32,
-    pub second_2: u32,
+    pub third_0: u32,
     pub third_1: u32,
     pub third_2: u32,
-    pub third_3: u32,
 }
 
 impl Tally {
-    /// The bits in book 1 with `more` low bits more.
+    /// The bits in book 1 with 1 low bit less than `low` and `more`.
     fn first(&self, more: u8) -> Option<u32>
-        ensures { (offset : ℤ) (vs : List ℤ) → IsTally offset vs self.now →
-            IfSome result (λ n. n ≡ all_symbol_bits 1 (self.now.low + more) (all_folded offset vs)) }
+        ensures { (offset : ℤ) (vs : List ℤ) (b : ℕ) → IsTally offset vs self.now → b + 1 ≡ self.now.low + more →
+            IfSome result (λ n. n ≡ all_symbol_bits 1 b (all_folded offset vs)) }
     {
         match more {
-            0 => Some(self.first_0),
-            1 => Some(self.first_1),
-            2 => Some(self.first_2),
+            0 => Some(self.first_before),
+            1 => Some(self.first_0),
+            2 => Some(self.first_1),
             _ => None,
         }
     }
 
-    /// The bits in book 2 with `more` low bits more.
+    /// The bits in book 2 with 1 low bit less than `low` and `more`.
     fn second(&self, more: u8) -> Option<u32>
-        ensures { (offset : ℤ) (vs : List ℤ) → IsTally offset vs self.now →
-            IfSome result (λ n. n ≡ all_symbol_bits 2 (self.now.low + more) (all_folded offset vs)) }
+        ensures { (offset : ℤ) (vs : List ℤ) (b : ℕ) → IsTally offset vs self.now → b + 1 ≡ self.now.low + more →
+            IfSome result (λ n. n ≡ all_symbol_bits 2 b (all_folded offset vs)) }
     {
         match more {
-            1 => Some(self.second_1),
-            2 => Some(self.second_2),
+            1 => Some(self.second_0),
+            2 => Some(self.second_1),
             _ => None,
         }
     }
 
-    /// The bits in book 3 with `more` low bits more.
+    /// The bits in book 3 with 1 low bit less than `low` and `more`.
     fn third(&self, more: u8) -> Option<u32>
-        ensures { (offset : ℤ) (vs : List ℤ) → IsTally offset vs self.now →
-            IfSome result (λ n. n ≡ all_symbol_bits 3 (self.now.low + more) (all_folded offset vs)) }
+        ensures { (offset : ℤ) (vs : List ℤ) (b : ℕ) → IsTally offset vs self.now → b + 1 ≡ self.now.low + more →
+            IfSome result (λ n. n ≡ all_symbol_bits 3 b (all_folded offset vs)) }
     {
         match more {
-            1 => Some(self.third_1),
-            2 => Some(self.third_2),
-            3 => Some(self.third_3),
+            1 => Some(self.third_0),
+            2 => Some(self.third_1),
+            3 => Some(self.third_2),
             _ => None,
         }
     }
 
     /// The bits in a book with so many low bits, where they were counted.
     fn sum_of(&self, book: u8, b: u8) -> Option<u32>
-        requires { book ≤ 3 }
+        requires book { book ≤ 3 }
+        requires b { 0 < book → b < 25 }
         ensures { (offset : ℤ) (vs : List ℤ) → IsTally offset vs self.now →
             IfSome result (λ n. n ≡ all_symbol_bits book b (all_folded offset vs)) }
     {
-        if b < self.low {
+        if book == 0 || b + 1 < self.low {
             return None;
         }
-        let more = b - self.low;
+        let more = b + 1 - self.low;
         match book {
-            0 => None,
             1 => self.first(more),
             2 => self.second(more),
             _ => self.third(more),
@@ -102,40 +103,57 @@ pub(crate) fn symbols(tally: &Option<Tally>, book: u8, values: &[i32], offset: i
 pub(crate) fn tally_of(values: &[i32], offset: i16, low: u8) -> Tally
     requires few { length values.now ≤ 160 }
     requires low { low < 28 }
-    requires within { top_of (all_folded offset values.now) / 2 ^ low < 32 }
+    requires within { top_of (all_folded offset values.now) / 2 ^ low < 16 }
     requires small { top_of (all_folded offset values.now) < 2 ^ 30 }
     ensures { IsTally offset values.now result }
 {
-    let mut first_0: u32 = 0;
-    let mut first_1: u32 = 0;
-    let mut first_2: u32 = 0;
-    let mut second_1: u32 = 0;
-    let mut second_2: u32 = 0;
-    let mut third_1: u32 = 0;
-    let mut third_2: u32 = 0;
-    let mut third_3: u32 = 0;
-    for value in values {
-        let p = moved(value, offset) >> low;
-        first_0 += symbol_bits::<1>(p);
-        first_1 += symbol_bits::<1>(p / 2);
-        first_2 += symbol_bits::<1>(p / 4);
-        second_1 += symbol_bits::<2>(p / 2);
-        second_2 += symbol_bits::<2>(p / 4);
-        third_1 += symbol_bits::<3>(p / 2);
-        third_2 += symbol_bits::<3>(p / 4);
-        third_3 += symbol_bits::<3>(p / 8);
-    }
+    let count = values.len() as u32;
+    let sums = sums_of(values, offset, low);
     Tally {
         low,
-        first_0,
-        first_1,
-        first_2,
-        second_1,
-        second_2,
-        third_1,
-        third_2,
-        third_3,
+        first_before: count + sums.whole + sums.below_1 + sums.below_2,
+        first_0: count + sums.halves + sums.below_2 + sums.below_4,
+        first_1: count + sums.quarters + sums.below_4 + sums.below_8,
+        second_0: 2 * count + sums.halves,
+        second_1: 2 * count + sums.quarters,
+        third_0: 2 * count + sums.whole - sums.halves - sums.below_1,
+        third_1: 2 * count + sums.halves - sums.quarters - sums.below_2,
+        third_2: count + sums.quarters + sums.below_8 - sums.below_4,
     }
+}
+
+/// The least of three numbers.
+fn least_of(a: u64, b: u64, c: u64) -> u64
+    ensures one { result ≤ a }
+    ensures two { result ≤ b }
+    ensures three { result ≤ c }
+{
+    a.min(b).min(c)
+}
+
+/// No more bits than low bits and symbols of all values take, in any book and with any low bits that were counted.
+pub(crate) fn fewest(tally: &Tally, count: u64) -> u64
+    requires { count ≤ 160 }
+    ensures { (offset : ℤ) (vs : List ℤ) (book b : ℕ) → IsTally offset vs tally.now → IsCounted tally.now.low book b →
+        result ≤ count * b + all_symbol_bits book b (all_folded offset vs) }
+{
+    let low_bits = count * u64::from(tally.low);
+    let with_low = least_of(
+        u64::from(tally.first_0),
+        u64::from(tally.second_0),
+        u64::from(tally.third_0),
+    );
+    let with_1_more = least_of(
+        u64::from(tally.first_1),
+        u64::from(tally.second_1),
+        u64::from(tally.third_1),
+    );
+    let with_2_more = u64::from(tally.third_2);
+    let bits = low_bits + least_of(with_low, count + with_1_more, 2 * count + with_2_more);
+    if tally.low == 0 {
+        return bits;
+    }
+    bits.min(low_bits - count + u64::from(tally.first_before))
 }
 
 /// Both offsets, where they were counted.
@@ -158,11 +176,11 @@ pub(crate) fn tally_side(values: &[i32], side: &Side, wanted: bool) -> Option<Ta
         return None;
     }
     let width = 64 - side.top.leading_zeros();
-    let low = width.saturating_sub(5) as u8;
+    let low = width.saturating_sub(4) as u8;
     if low >= 28 {
         return None;
     }
-    if side.top >> low >= 32 {
+    if side.top >> low >= 16 {
         return None;
     }
     Some(tally_of(values, side.offset, low))
