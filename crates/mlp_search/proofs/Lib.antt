@@ -24,3 +24,4 @@ pub mod KeptLaws
 pub mod LineLaws
 pub mod LineFits
 pub mod SkipLaws
+pub mod RecursiveLaws

@@ -22,7 +22,7 @@ use Rattle.mlp_search.proofs.LineLaws.{dot_within, floor_size, floor_nest, resid
 
 -- ---- sizes
 
-all_reverse : (P : ℤ → Type 0) (xs : List ℤ) → All P xs → All P (reverse xs)
+pub all_reverse : (P : ℤ → Type 0) (xs : List ℤ) → All P xs → All P (reverse xs)
 all_reverse P xs h = λ k d l.
     let lt : k < length xs = omega (arith, l, length-reverse xs) in
     subst P (sym (get_or-reverse xs k d lt)) (h (length xs - 1 - k) d (omega (arith, lt)))
@@ -48,35 +48,52 @@ one_unscaled v zero some h = absurd (omega (arith, some))
 pub unscaled : (q : ℕ) (vs : List ℤ) → All Is26 (map (stepped q) vs) → All Is26 vs
 unscaled q vs h = λ k d l. one_unscaled (get_or vs k d) (2 ^ q) (pow_pos q) (from_map q vs h k d l)
 
--- a difference of two sizes fits
-core : (y f : ℤ) (p : ℕ) → unsigned_abs y * p ≤ 33554432 → unsigned_abs f * p ≤ 2013265920 → FitsSigned w32 ((y -ℤ f) *ℤ pos p)
-core y f p a b =
+-- the size of a difference
+difference_size : (y f : ℤ) (p m : ℕ) → unsigned_abs y * p ≤ 33554432 → unsigned_abs f * p ≤ m → unsigned_abs ((y -ℤ f) *ℤ pos p) ≤ 33554432 + m
+difference_size y f p m a b =
     let both : unsigned_abs (y -ℤ f) ≤ unsigned_abs y + unsigned_abs f = omega (arith, ints) in
     let more : unsigned_abs (y -ℤ f) * p ≤ (unsigned_abs y + unsigned_abs f) * p = mul-le-mul_right p both in
-    fits_signed_from_abs w32 ((y -ℤ f) *ℤ pos p) (omega (arith, more, a, b, size_steps (y -ℤ f) p))
+    omega (arith, more, a, b, size_steps (y -ℤ f) p)
 
--- all that is left fits where each floor is small
+-- all that is left is small where each floor is
+pub all_small : (fs : List ℤ) (s q m : ℕ) (whole : List ℤ) → All Is26 (map (stepped q) whole) → ((k : ℕ) → unsigned_abs (floor_by s (dot fs (reverse (take (8 + k) whole)))) * 2 ^ q ≤ m)
+    → All (λ (v : ℤ). unsigned_abs v ≤ 33554432 + m) (map (stepped q) (residuals_of (fir_alone fs s) (past_by (reverse (take 8 whole)) []) 0 (drop 8 whole)))
+all_small fs s q m whole small floors =
+    let rs : List ℤ = residuals_of (fir_alone fs s) (past_by (reverse (take 8 whole)) []) 0 (drop 8 whole) in
+    All-map (λ (v : ℤ). unsigned_abs v ≤ 33554432 + m) (stepped q) rs (λ k d l.
+    let lt : 8 + k < length whole = omega (arith, l, left_length fs s 0 (reverse (take 8 whole)) [] (drop 8 whole), length-drop 8 whole) in
+    let is : get_or rs k d ≡ get_or whole (8 + k) (pos 0) -ℤ floor_by s (dot fs (reverse (take (8 + k) whole))) = get_or_default rs k d (pos 0) l ∙ left_at fs s whole k lt in
+    subst (λ (v : ℤ). unsigned_abs (stepped q v) ≤ 33554432 + m) (sym is)
+    (difference_size (get_or whole (8 + k) (pos 0)) (floor_by s (dot fs (reverse (take (8 + k) whole)))) (2 ^ q) m (all_sized q whole small (8 + k) (pos 0) lt) (floors k)))
+
+-- .. and fits
 all_fit : (fs : List ℤ) (s q : ℕ) (whole : List ℤ) → All Is26 (map (stepped q) whole) → ((k : ℕ) → unsigned_abs (floor_by s (dot fs (reverse (take (8 + k) whole)))) * 2 ^ q ≤ 2013265920)
     → All (FitsSigned w32) (map (stepped q) (residuals_of (fir_alone fs s) (past_by (reverse (take 8 whole)) []) 0 (drop 8 whole)))
 all_fit fs s q whole small floors =
-    let rs : List ℤ = residuals_of (fir_alone fs s) (past_by (reverse (take 8 whole)) []) 0 (drop 8 whole) in
-    All-map (FitsSigned w32) (stepped q) rs (λ k d l.
-    let lt : 8 + k < length whole = omega (arith, l, left_length fs s 0 (reverse (take 8 whole)) [] (drop 8 whole), length-drop 8 whole) in
-    let is : get_or rs k d ≡ get_or whole (8 + k) (pos 0) -ℤ floor_by s (dot fs (reverse (take (8 + k) whole))) = get_or_default rs k d (pos 0) l ∙ left_at fs s whole k lt in
-    subst (λ (v : ℤ). FitsSigned w32 (stepped q v)) (sym is)
-    (core (get_or whole (8 + k) (pos 0)) (floor_by s (dot fs (reverse (take (8 + k) whole)))) (2 ^ q) (all_sized q whole small (8 + k) (pos 0) lt) (floors k)))
+    let rs : List ℤ = map (stepped q) (residuals_of (fir_alone fs s) (past_by (reverse (take 8 whole)) []) 0 (drop 8 whole)) in
+    λ k d l. fits_signed_from_abs w32 (get_or rs k d) (omega (arith, all_small fs s q 2013265920 whole small floors k d l))
+
+-- the floor of a sum by coefficients of a size of at most a
+floor_within : (a s q : ℕ) (fs whole : List ℤ) (k : ℕ) → All (λ (c : ℤ). unsigned_abs c ≤ a) fs → All Is26 (map (stepped q) whole) → unsigned_abs (floor_by s (dot fs (reverse (take (8 + k) whole)))) * 2 ^ q ≤ length fs * (a * 33554432)
+floor_within a s q fs whole k sizes small =
+    let P : ℤ → Type 0 = λ (v : ℤ). unsigned_abs v * 2 ^ q ≤ 33554432 in
+    let seen = all_reverse P (take (8 + k) whole) (All-take P (8 + k) whole (all_sized q whole small)) in
+    let all = dot_within a 33554432 (2 ^ q) fs (reverse (take (8 + k) whole)) sizes seen in
+    let under : unsigned_abs (floor_by s (dot fs (reverse (take (8 + k) whole)))) * 2 ^ q ≤ unsigned_abs (dot fs (reverse (take (8 + k) whole))) * 2 ^ q = mul-le-mul_right (2 ^ q) (floor_size s (dot fs (reverse (take (8 + k) whole)))) in
+    omega (arith, all, under)
 
 pub light_fit : (fs : List ℤ) (s q : ℕ) (whole : List ℤ) → length fs ≤ 4 → All IsLight fs → All Is26 (map (stepped q) whole)
     → All (FitsSigned w32) (map (stepped q) (residuals_of (fir_alone fs s) (past_by (reverse (take 8 whole)) []) 0 (drop 8 whole)))
 light_fit fs s q whole few light small =
-    all_fit fs s q whole small (λ k.
-    let d : ℤ = dot fs (reverse (take (8 + k) whole)) in
     let sizes : All (λ (c : ℤ). unsigned_abs c ≤ 15) fs = λ k d l. (let h = light k d l in omega (arith, ints, h.low, h.high)) in
-    let P : ℤ → Type 0 = λ (v : ℤ). unsigned_abs v * 2 ^ q ≤ 33554432 in
-    let seen = all_reverse P (take (8 + k) whole) (All-take P (8 + k) whole (all_sized q whole small)) in
-    let all = dot_within 15 33554432 (2 ^ q) fs (reverse (take (8 + k) whole)) sizes seen in
-    let under : unsigned_abs (floor_by s (dot fs (reverse (take (8 + k) whole)))) * 2 ^ q ≤ unsigned_abs (dot fs (reverse (take (8 + k) whole))) * 2 ^ q = mul-le-mul_right (2 ^ q) (floor_size s (dot fs (reverse (take (8 + k) whole)))) in
-    omega (arith, all, under, few))
+    all_fit fs s q whole small (λ k. omega (arith, floor_within 15 s q fs whole k sizes small, few))
+
+-- first and second differences
+pub rises_small : (fs : List ℤ) (q : ℕ) (whole : List ℤ) → length fs ≤ 2 → All (λ (c : ℤ). unsigned_abs c ≤ 2) fs → All Is26 (map (stepped q) whole)
+    → All (λ (d : ℤ). unsigned_abs d ≤ 268435456) (map (stepped q) (left_in (alone_by fs 0) whole))
+rises_small fs q whole few sizes small =
+    let all = all_small fs 0 q 134217728 whole small (λ k. omega (arith, floor_within 2 0 q fs whole k sizes small, few)) in
+    λ k d l. omega (arith, all k d l)
 
 floor_less : (v : ℤ) → unsigned_abs (floor_by 13 v) ≤ unsigned_abs v / 8192 + 1
 floor_less (pos n) = omega arith
@@ -111,7 +128,7 @@ map_reverse f (x ∷ xs) =
     ∙ ap (λ (ys : List ℤ). ys ++ f x ∷ []) (map_reverse f xs)
     ∙ sym (reverse-append (f x ∷ []) (map f xs))
 
-scaled_none : (vs : List ℤ) → scaled 0 vs ≡ vs
+pub scaled_none : (vs : List ℤ) → scaled 0 vs ≡ vs
 scaled_none [] = refl
 scaled_none (v ∷ vs) = ap (λ (w : ℤ). w ∷ scaled 0 vs) (let e : v *ℤ pos (2 ^ 0) ≡ v = omega (arith, ints) in e) ∙ ap (λ (ws : List ℤ). v ∷ ws) (scaled_none vs)
 
@@ -129,20 +146,27 @@ same_past n pair past none = ap (λ (k : ℕ). with_state (replicate k (pos 0)) 
     pick true = refl
     pick false = ap (λ (vs : List ℤ). length vs) none
 
+-- what lies before the block, and the block, in steps
+pub line_outputs : (step : ℕ) (past : Past) (samples whole high low : List ℤ) → IsLine step past samples whole high low → map (stepped step) (reverse (take 8 whole)) ≡ past.outputs
+line_outputs step past samples whole high low is =
+    let long : length (reverse past.outputs) ≡ 8 = omega (arith, is.eight, length-reverse past.outputs) in
+    map_reverse (stepped step) (take 8 whole)
+    ∙ ap reverse (sym (take-map (stepped step) 8 whole) ∙ ap (take 8) is.steps ∙ take_at (reverse past.outputs) samples 8 long)
+    ∙ reverse-reverse past.outputs
+
+pub line_samples : (step : ℕ) (past : Past) (samples whole high low : List ℤ) → IsLine step past samples whole high low → map (stepped step) (drop 8 whole) ≡ samples
+line_samples step past samples whole high low is =
+    let long : length (reverse past.outputs) ≡ 8 = omega (arith, is.eight, length-reverse past.outputs) in
+    sym (drop-map (stepped step) 8 whole) ∙ ap (drop 8) is.steps ∙ drop_at (reverse past.outputs) samples 8 long
+
 pub block_is : (pair : Pair) (step : ℕ) (past : Past) (samples whole high low : List ℤ) (n shift : ℕ) (values : List ℤ) → IsLine step past samples whole high low → pair.fir.coeff_shift ≡ 0 → pair.iir.coeffs.items ≡ []
     → shift ≡ shift_where pair.fir.coeffs.items pair.fir.shift pair.iir.shift → values ≡ left_in (alone_by pair.fir.coeffs.items shift) whole → map (stepped step) values ≡ residuals_for past step samples n pair
 block_is pair step past samples whole high low n shift values is e none at left =
     let fs : List ℤ = pair.fir.coeffs.items in
-    let ys : List ℤ = reverse (take 8 whole) in
-    let zs : List ℤ = drop 8 whole in
-    let long : length (reverse past.outputs) ≡ 8 = omega (arith, is.eight, length-reverse past.outputs) in
-    let front : map (stepped step) (take 8 whole) ≡ reverse past.outputs = sym (take-map (stepped step) 8 whole) ∙ ap (take 8) is.steps ∙ take_at (reverse past.outputs) samples 8 long in
-    let behind : map (stepped step) (drop 8 whole) ≡ samples = sym (drop-map (stepped step) 8 whole) ∙ ap (drop 8) is.steps ∙ drop_at (reverse past.outputs) samples 8 long in
-    let outputs : map (stepped step) (reverse (take 8 whole)) ≡ past.outputs = map_reverse (stepped step) (take 8 whole) ∙ ap reverse front ∙ reverse-reverse past.outputs in
     ap (map (stepped step)) left
     ∙ sym (residuals_stepped fs shift step (reverse (take 8 whole)) past.differences [] (drop 8 whole))
-    ∙ ap (λ (xs : List ℤ). residuals_of (fir_alone fs shift) (past_by xs past.differences) step (map (stepped step) (drop 8 whole))) outputs
-    ∙ ap (λ (xs : List ℤ). residuals_of (fir_alone fs shift) past step xs) behind
+    ∙ ap (λ (xs : List ℤ). residuals_of (fir_alone fs shift) (past_by xs past.differences) step (map (stepped step) (drop 8 whole))) (line_outputs step past samples whole high low is)
+    ∙ ap (λ (xs : List ℤ). residuals_of (fir_alone fs shift) past step xs) (line_samples step past samples whole high low is)
     ∙ ap (λ (k : ℕ). residuals_of (fir_alone fs k) past step samples) at
     ∙ ap (λ (f : Filters). residuals_of f past step samples) (sym (alone_is pair e none))
     ∙ ap (λ (p : Past). residuals_of (filters_of pair.fir pair.iir) p step samples) (sym (same_past n pair past none))

@@ -34,7 +34,7 @@ mul_moved a b (suc n) =
     ∙ ap (λ (z : ℤ). z +ℤ a *ℤ b) (mul_moved a b n)
     ∙ sym (mul_suc (a *ℤ b) n)
 
-sub-mul : (a b : ℤ) (n : ℕ) → (a -ℤ b) *ℤ pos n ≡ a *ℤ pos n -ℤ b *ℤ pos n
+pub sub-mul : (a b : ℤ) (n : ℕ) → (a -ℤ b) *ℤ pos n ≡ a *ℤ pos n -ℤ b *ℤ pos n
 sub-mul a b n =
     let both = add-mul (a -ℤ b) b (pos n) in
     let whole : (a -ℤ b +ℤ b) *ℤ pos n ≡ a *ℤ pos n = ap (λ (z : ℤ). z *ℤ pos n) (let e : a -ℤ b +ℤ b ≡ a = omega (arith, ints) in e) in
@@ -42,7 +42,7 @@ sub-mul a b n =
 
 -- ---- whole steps pass through sums and floors
 
-dot_stepped : (q : ℕ) (cs vs : List ℤ) → dot cs (map (stepped q) vs) ≡ stepped q (dot cs vs)
+pub dot_stepped : (q : ℕ) (cs vs : List ℤ) → dot cs (map (stepped q) vs) ≡ stepped q (dot cs vs)
 dot_stepped q [] vs = omega (arith, ints)
 dot_stepped q (c ∷ cs) [] = omega (arith, ints)
 dot_stepped q (c ∷ cs) (v ∷ vs) =
@@ -63,10 +63,10 @@ clear_floor q s d =
     ∙ sym (floor_nest q s (stepped q d))
     ∙ ap (floor_by s) (floor_multiple d (2 ^ q) (pow_pos q)))
 
-no_zero : (a : ℤ) → a +ℤ pos 0 ≡ a
+pub no_zero : (a : ℤ) → a +ℤ pos 0 ≡ a
 no_zero a = omega (arith, ints)
 
-clear_none : (v : ℤ) → clear 0 v ≡ v
+pub clear_none : (v : ℤ) → clear 0 v ≡ v
 clear_none v = let one : v ≡ v *ℤ pos (2 ^ 0) = omega (arith, ints) in ap (clear 0) one ∙ ap (λ (z : ℤ). z *ℤ pos (2 ^ 0)) (floor_multiple v (2 ^ 0) (pow_pos 0)) ∙ sym one
 
 -- one residual

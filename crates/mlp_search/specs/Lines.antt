@@ -1,8 +1,9 @@
 -- A block in one line behind the latest outputs, the oldest first, in quantisation steps.
-use Rattle.std.specs.Prelude.{◌≡◌, ℕ, List, [], ◌++◌, map, length, take, drop, reverse, All, ℤ, pos, neg_ℤ, ◌-ℤ◌, ◌≤ℤ◌}
+use Rattle.std.specs.Prelude.{◌≡◌, ℕ, List, [], ◌∷◌, ◌++◌, map, length, take, drop, reverse, All, ℤ, pos, neg_ℤ, ◌-ℤ◌, ◌≤ℤ◌}
 use Rattle.mlp_arith.specs.Words.{floor_by, clear}
 use Rattle.mlp_arith.specs.Ranges.{Is26}
 use Rattle.mlp_predict.specs.Prediction.{Filters, Past, residuals_of}
+use Rattle.mlp_predict.specs.Filters.{scaled}
 use Rattle.mlp_predict.specs.Lines.{past_in}
 use Rattle.mlp_search.specs.declared.line.Line.{Line}
 use Rattle.mlp_search.specs.Folded.{stepped}
@@ -31,6 +32,17 @@ alone_by fir shift = record { fir = fir; iir = []; shift = shift }
 -- what filters leave of a block behind 8 outputs
 abbrev pub left_in : Filters → List ℤ → List ℤ
 left_in f whole = residuals_of f (past_in (take 8 whole) []) 0 (drop 8 whole)
+
+-- a FIR of 4 times these coefficients, over 4, beside an IIR that takes half of the latest difference away
+abbrev pub halving : List ℤ → Filters
+halving quarters = record { fir = scaled 2 quarters; iir = neg_ℤ (pos 2) ∷ []; shift = 2 }
+
+-- What is left of samples, in quantisation steps, by their rises: what they have above predictions without an IIR. How
+-- far a prediction is above its sample is half of how far the one before was, rounded down, less the rise.
+abbrev pub halved : ℕ → ℤ → List ℤ → List ℤ
+halved step excess [] = []
+halved step excess (d ∷ ds) =
+    neg_ℤ (floor_by step (floor_by 1 excess -ℤ stepped step d)) ∷ halved step (floor_by 1 excess -ℤ stepped step d) ds
 
 -- a coefficient of a size of at most 15
 pub record IsLight (c : ℤ) : Type 0 where

@@ -9,6 +9,7 @@ mod giving;
 pub mod laws;
 mod line;
 mod pair;
+mod recursive;
 mod reduction;
 mod search;
 mod sides;

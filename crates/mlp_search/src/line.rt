@@ -84,7 +84,12 @@ fn split_at<const M: usize>(
 
 /// Puts what light coefficients leave of the block.
 #[inline(always)]
-fn reduce_light<const M: usize>(fir: &[i32; M], shift: u8, whole: &[i32], values: &mut [i32])
+pub(crate) fn reduce_light<const M: usize>(
+    fir: &[i32; M],
+    shift: u8,
+    whole: &[i32],
+    values: &mut [i32],
+)
     requires few { M ≤ 4 }
     requires light { All IsLight fir.now }
     requires shift { shift < 16 }

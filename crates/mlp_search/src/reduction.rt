@@ -14,6 +14,7 @@ ghost use Rattle.mlp_search.specs.Lines.{IsIn};
 use crate::choice::Choice;
 use crate::line::{Line, reduce_in};
 use crate::pair::{PairRef, pair_of};
+use crate::recursive::reduce_recursive;
 use arrayvec::ArrayVec;
 use mlp_params::ChannelState;
 use mlp_predict::Predictor;
@@ -101,6 +102,9 @@ pub(crate) fn values_for(
 {
     if line.narrow {
         if reduce_in(pair, line, values) {
+            return true;
+        }
+        if reduce_recursive(history, step, number, pair, line, values) {
             return true;
         }
     }

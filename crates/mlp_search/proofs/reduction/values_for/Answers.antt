@@ -25,3 +25,14 @@ reduce_in-requires-clause-high_parts c = (c.requires.line c.if-line.true).high_p
 
 pub reduce_in-requires-clause-low_parts : goal.reduce_in-requires-clause-low_parts
 reduce_in-requires-clause-low_parts c = (c.requires.line c.if-line.true).low_parts
+
+pub reduce_recursive-requires-clause-room : goal.reduce_recursive-requires-clause-room
+reduce_recursive-requires-clause-room c =
+    let is = c.requires.line c.if-line.true in
+    omega (arith, line_length c.args.step c.args.history.now c.args.samples.now c.args.line.now.whole.now c.args.line.now.high.now c.args.line.now.low.now is, c.requires.room)
+
+pub reduce_recursive-requires-clause-words : goal.reduce_recursive-requires-clause-words
+reduce_recursive-requires-clause-words c = (c.requires.line c.if-line.true).words
+
+pub reduce_recursive-requires-clause-small : goal.reduce_recursive-requires-clause-small
+reduce_recursive-requires-clause-small c = (c.requires.line c.if-line.true).small
