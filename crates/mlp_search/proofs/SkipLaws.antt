@@ -1,10 +1,10 @@
 -- Filters that are passed over: those that write nothing, and those whose parameters alone take too many bits.
 use Rattle.std.proofs.Common.{◌≡◌, ℕ, ◌+◌, ◌-◌, ◌*◌, ◌<◌, ◌≤◌, ℤ, pos, Bool, true, false, List, length, replicate, Option, Some, None, arith, refl, sym, ◌∙◌, ap, subst}
-use Rattle.std.specs.Prelude.{◌==◌, ◌&&◌, ◌||◌, nat_le, IfSome, if◌then◌else◌}
+use Rattle.std.specs.Prelude.{◌==◌, ◌&&◌, ◌||◌, IfSome, if◌then◌else◌}
 use Rattle.std.specs.List.{list_all, flat_map, range_with_len}
 use Rattle.std.specs.Option.{option_map}
 use Rattle.std.specs.Ordering.{int_eq}
-use Rattle.std.proofs.lemmas.Bool.{eq-eqb, ne_eqb, eqb-true, and_parts, and_from, leb-true}
+use Rattle.std.proofs.lemmas.Bool.{eq-eqb, ne_eqb, eqb-true, and_parts, and_from}
 use Rattle.std.proofs.lemmas.Bool.Decides.{Decides-int_eq}
 use Rattle.mlp_layout.specs.Combined.{group}
 use Rattle.mlp_syntax.specs.declared.params.Filter.{Filter}
@@ -22,8 +22,8 @@ use Rattle.mlp_levinson.proofs.Bests.{best}
 use Rattle.mlp_search.specs.declared.choice.Choice.{Choice}
 use Rattle.mlp_search.specs.declared.pair.Pair.{Pair}
 use Rattle.mlp_search.specs.Candidates.{alone, in_force, pair_of, past_for, residuals_for}
-use Rattle.mlp_search.specs.Given.{IsPair, fir_stays, fir_given, iir_stays, iir_given, with_zeros, offset_given, codes_alike, all_stays, given}
-use Rattle.mlp_search.specs.Cost.{filter_bits, fir_bits, iir_bits, offset_bits, parameter_bits, parameter_sum, bits_for, in_range, is_offset, cost_over, cost_of}
+use Rattle.mlp_search.specs.Given.{fir_stays, fir_given, iir_stays, iir_given, with_zeros, offset_given, codes_alike, all_stays, given}
+use Rattle.mlp_search.specs.Cost.{filter_bits, fir_bits, iir_bits, offset_bits, parameter_sum, bits_for, in_range, is_offset, cost_over, cost_of}
 use Rattle.mlp_search.specs.Least.{is_better, better, least_from, with_books, middle_for, IsWithinFirst}
 use Rattle.mlp_search.proofs.CodeBits.{never_better}
 use Rattle.mlp_search.proofs.CostLaws.{parameters_is, offset_fits}

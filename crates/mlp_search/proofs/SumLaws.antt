@@ -18,7 +18,7 @@ use Rattle.mlp_search.proofs.FoldLaws.{quotient_below, quotient_above}
 over : (u b d k : ℕ) → k ≡ 2 ^ d → u / 2 ^ b / k ≡ u / 2 ^ (b + d)
 over u b d k e = div-div-eq-div-mul u (2 ^ b) k ∙ ap (λ (n : ℕ). u / n) (ap (λ (n : ℕ). 2 ^ b * n) e ∙ sym (pow-add 2 b d))
 
-abbrev bit : Bool → ℕ
+abbrev pub bit : Bool → ℕ
 bit t = if t then 1 else 0
 
 bit_most : (t : Bool) → bit t ≤ 1
@@ -118,24 +118,22 @@ abbrev pub marks_total : ℕ → List ℕ → ℕ
 marks_total low us = count_below low us + 2 ^ 8 * count_below (low + 1) us + 2 ^ 16 * count_below (low + 2) us + 2 ^ 24 * count_below (low + 3) us
 
 -- one value more
-pub parts_next : (low : ℕ) (m : ℤ) (vs : List ℤ) (i p r sum total : ℕ) → i < length vs → p ≡ folded (get_or vs i (pos 0) -ℤ m) / 2 ^ low → r ≡ p + 2 ^ 12 * (p / 2) + 2 ^ 23 * (p / 4)
+pub parts_next : (low : ℕ) (m : ℤ) (vs : List ℤ) (i u r sum total : ℕ) → i < length vs → u ≡ folded (get_or vs i (pos 0) -ℤ m) → r ≡ u / 2 ^ low + 2 ^ 12 * (u / 2 ^ low / 2) + 2 ^ 23 * (u / 2 ^ low / 4)
     → sum + parts_total low (all_folded m (drop i vs)) ≡ total → sum + r + parts_total low (all_folded m (drop (i + 1) vs)) ≡ total
-parts_next low m vs i p r sum total lt is made inv =
-    let e : parts_total low (all_folded m (drop i vs)) ≡ parts_total low (folded (get_or vs i (pos 0) -ℤ m) ∷ all_folded m (drop (i + 1) vs)) = ap (λ (xs : List ℤ). parts_total low (all_folded m xs)) (drop_more vs i (pos 0) lt) in
-    let half : p / 2 ≡ folded (get_or vs i (pos 0) -ℤ m) / 2 ^ (low + 1) = ap (λ (n : ℕ). n / 2) is ∙ over (folded (get_or vs i (pos 0) -ℤ m)) low 1 2 refl in
-    let quarter : p / 4 ≡ folded (get_or vs i (pos 0) -ℤ m) / 2 ^ (low + 2) = ap (λ (n : ℕ). n / 4) is ∙ over (folded (get_or vs i (pos 0) -ℤ m)) low 2 4 refl in
-    omega (arith, e, half, quarter, is, made, inv)
+parts_next low m vs i u r sum total lt is made inv =
+    let e : parts_total low (all_folded m (drop i vs)) ≡ parts_total low (u ∷ all_folded m (drop (i + 1) vs)) =
+    ap (λ (xs : List ℤ). parts_total low (all_folded m xs)) (drop_more vs i (pos 0) lt) ∙ ap (λ (k : ℕ). parts_total low (k ∷ all_folded m (drop (i + 1) vs))) (sym is)
+    in
+    omega (arith, e, over u low 1 2 refl, over u low 2 4 refl, made, inv)
 
-pub marks_next : (low : ℕ) (m : ℤ) (vs : List ℤ) (i p r sum total : ℕ) → i < length vs → p ≡ folded (get_or vs i (pos 0) -ℤ m) / 2 ^ low
-    → r ≡ (if nat_lt p 1 then 1 else 0) + 2 ^ 8 * (if nat_lt p 2 then 1 else 0) + 2 ^ 16 * (if nat_lt p 4 then 1 else 0) + 2 ^ 24 * (if nat_lt p 8 then 1 else 0)
+pub marks_next : (low : ℕ) (m : ℤ) (vs : List ℤ) (i u r sum total : ℕ) → i < length vs → u ≡ folded (get_or vs i (pos 0) -ℤ m)
+    → r ≡ bit (nat_lt (u / 2 ^ low) 1) + 2 ^ 8 * bit (nat_lt (u / 2 ^ low) 2) + 2 ^ 16 * bit (nat_lt (u / 2 ^ low) 4) + 2 ^ 24 * bit (nat_lt (u / 2 ^ low) 8)
     → sum + marks_total low (all_folded m (drop i vs)) ≡ total → sum + r + marks_total low (all_folded m (drop (i + 1) vs)) ≡ total
-marks_next low m vs i p r sum total lt is made inv =
-    let e : marks_total low (all_folded m (drop i vs)) ≡ marks_total low (folded (get_or vs i (pos 0) -ℤ m) ∷ all_folded m (drop (i + 1) vs)) = ap (λ (xs : List ℤ). marks_total low (all_folded m xs)) (drop_more vs i (pos 0) lt) in
-    let here : bit (nat_lt p 1) ≡ bit (nat_lt (folded (get_or vs i (pos 0) -ℤ m) / 2 ^ low) 1) = ap (λ (n : ℕ). bit (nat_lt n 1)) is in
-    let two : bit (nat_lt p 2) ≡ bit (nat_lt (folded (get_or vs i (pos 0) -ℤ m) / 2 ^ (low + 1)) 1) = ap (λ (n : ℕ). bit (nat_lt n 2)) is ∙ mark_over (folded (get_or vs i (pos 0) -ℤ m)) low 1 2 refl (omega arith) in
-    let four : bit (nat_lt p 4) ≡ bit (nat_lt (folded (get_or vs i (pos 0) -ℤ m) / 2 ^ (low + 2)) 1) = ap (λ (n : ℕ). bit (nat_lt n 4)) is ∙ mark_over (folded (get_or vs i (pos 0) -ℤ m)) low 2 4 refl (omega arith) in
-    let eight : bit (nat_lt p 8) ≡ bit (nat_lt (folded (get_or vs i (pos 0) -ℤ m) / 2 ^ (low + 3)) 1) = ap (λ (n : ℕ). bit (nat_lt n 8)) is ∙ mark_over (folded (get_or vs i (pos 0) -ℤ m)) low 3 8 refl (omega arith) in
-    omega (arith, e, here, two, four, eight, made, inv)
+marks_next low m vs i u r sum total lt is made inv =
+    let e : marks_total low (all_folded m (drop i vs)) ≡ marks_total low (u ∷ all_folded m (drop (i + 1) vs)) =
+    ap (λ (xs : List ℤ). marks_total low (all_folded m xs)) (drop_more vs i (pos 0) lt) ∙ ap (λ (k : ℕ). marks_total low (k ∷ all_folded m (drop (i + 1) vs))) (sym is)
+    in
+    omega (arith, e, mark_over u low 1 2 refl (omega arith), mark_over u low 2 4 refl (omega arith), mark_over u low 3 8 refl (omega arith), made, inv)
 
 pub parts_fit : (low : ℕ) (us : List ℕ) → length us ≤ 160 → top_of us / 2 ^ low < 16 → parts_total low us < 2 ^ 32
 parts_fit low us few lt = omega (arith, few, most_whole low us lt, most_halves low us lt, most_quarters low us lt)

@@ -8,8 +8,8 @@ use crate::folds::symbol_sum;
 use crate::sides::Side;
 use crate::sums::sums_of;
 
-/// The bits that the symbols of all values take: in book 1 with 1 low bit less than `low`, with `low` and with 1 more, in
-/// book 2 with `low` low bits and 1 more, and in book 3 with `low`, 1 more and 2 more.
+/// The bits that the symbols of all values take: in book 1 with 1 low bit less than `low`, with `low` and with 1 more,
+/// in book 2 with `low` low bits and 1 more, and in book 3 with `low`, 1 more and 2 more.
 #[derive(Drop)]
 pub struct Tally {
     pub low: u8,

@@ -1,4 +1,4 @@
-use Rattle.std.proofs.Common.{◌≡◌, ℕ, Bool, true, None, sym, ap, ◌∙◌}
+use Rattle.std.proofs.Common.{Bool, true, None, sym, ap, ◌∙◌}
 use Rattle.std.specs.Prelude.{if◌then◌else◌}
 use Rattle.std.specs.List.{flat_map, range_with_len}
 use Rattle.mlp_search.specs.Cost.{cost_of}

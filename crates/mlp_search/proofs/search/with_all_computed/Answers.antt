@@ -1,4 +1,4 @@
-use Rattle.std.proofs.Common.{◌≡◌, ◌-◌, true, arith}
+use Rattle.std.proofs.Common.{◌-◌, true, arith}
 use Rattle.std.specs.List.{flat_map, range_with_len}
 use Rattle.mlp_search.specs.Cost.{cost_of}
 use Rattle.mlp_search.specs.Least.{with_books, middle_for}

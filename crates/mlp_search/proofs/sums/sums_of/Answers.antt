@@ -31,8 +31,9 @@ marks-marks_sum-requires c =
 pub overflow_add-parts_sum : goal.overflow_add-parts_sum
 overflow_add-parts_sum c =
     let m : ℤ = to_z w16 (of_z w16 c.args.offset) in
-    let over : c.moved.result / 2 ^ c.args.low ≡ folded (get_or c.args.values.now c.loop-value.value-index (pos 0) -ℤ to_z w16 (of_z w16 c.args.offset)) / 2 ^ c.args.low = ap (λ (n : ℕ). n / 2 ^ c.args.low) c.moved.ensures in
-    let next = parts_next c.args.low m c.args.values.now c.loop-value.value-index (c.moved.result / 2 ^ c.args.low) c.parts-parts_sum.result c.loop-value.parts_sum _ c.loop-value-test.true over c.parts-parts_sum.ensures c.loop-value.invariant.parts in
+    let next =
+    parts_next c.args.low m c.args.values.now c.loop-value.value-index c.moved.result c.parts-parts_sum.result c.loop-value.parts_sum _ c.loop-value-test.true c.moved.ensures c.parts-parts_sum.ensures c.loop-value.invariant.parts
+    in
     let same = ap (λ (z : ℤ). parts_total c.args.low (all_folded z c.args.values.now)) (to_z-of_z w16 c.args.offset c.ranges.offset) in
     let count : length (all_folded c.args.offset c.args.values.now) ≡ length c.args.values.now = length-map c.args.values.now _ in
     omega (arith, next, same, parts_fit c.args.low (all_folded c.args.offset c.args.values.now) (omega (arith, count, c.requires.few)) c.requires.within)
@@ -40,8 +41,9 @@ overflow_add-parts_sum c =
 pub overflow_add-marks_sum : goal.overflow_add-marks_sum
 overflow_add-marks_sum c =
     let m : ℤ = to_z w16 (of_z w16 c.args.offset) in
-    let over : c.moved.result / 2 ^ c.args.low ≡ folded (get_or c.args.values.now c.loop-value.value-index (pos 0) -ℤ to_z w16 (of_z w16 c.args.offset)) / 2 ^ c.args.low = ap (λ (n : ℕ). n / 2 ^ c.args.low) c.moved.ensures in
-    let next = marks_next c.args.low m c.args.values.now c.loop-value.value-index (c.moved.result / 2 ^ c.args.low) c.marks-marks_sum.result c.loop-value.marks_sum _ c.loop-value-test.true over c.marks-marks_sum.ensures c.loop-value.invariant.marks in
+    let next =
+    marks_next c.args.low m c.args.values.now c.loop-value.value-index c.moved.result c.marks-marks_sum.result c.loop-value.marks_sum _ c.loop-value-test.true c.moved.ensures c.marks-marks_sum.ensures c.loop-value.invariant.marks
+    in
     let same = ap (λ (z : ℤ). marks_total c.args.low (all_folded z c.args.values.now)) (to_z-of_z w16 c.args.offset c.ranges.offset) in
     let count : length (all_folded c.args.offset c.args.values.now) ≡ length c.args.values.now = length-map c.args.values.now _ in
     omega (arith, next, same, marks_fit c.args.low (all_folded c.args.offset c.args.values.now) (omega (arith, count, c.requires.few)))
@@ -49,10 +51,11 @@ overflow_add-marks_sum c =
 pub loop-value-preserved : goal.loop-value-preserved
 loop-value-preserved c =
     let m : ℤ = to_z w16 (of_z w16 c.args.offset) in
-    let over : c.moved.result / 2 ^ c.args.low ≡ folded (get_or c.args.values.now c.loop-value.value-index (pos 0) -ℤ to_z w16 (of_z w16 c.args.offset)) / 2 ^ c.args.low = ap (λ (n : ℕ). n / 2 ^ c.args.low) c.moved.ensures in
     record {
-      parts = parts_next c.args.low m c.args.values.now c.loop-value.value-index (c.moved.result / 2 ^ c.args.low) c.parts-parts_sum.result c.loop-value.parts_sum _ c.loop-value-test.true over c.parts-parts_sum.ensures c.loop-value.invariant.parts;
-      marks = marks_next c.args.low m c.args.values.now c.loop-value.value-index (c.moved.result / 2 ^ c.args.low) c.marks-marks_sum.result c.loop-value.marks_sum _ c.loop-value-test.true over c.marks-marks_sum.ensures c.loop-value.invariant.marks;
+      parts =
+          parts_next c.args.low m c.args.values.now c.loop-value.value-index c.moved.result c.parts-parts_sum.result c.loop-value.parts_sum _ c.loop-value-test.true c.moved.ensures c.parts-parts_sum.ensures c.loop-value.invariant.parts;
+      marks =
+          marks_next c.args.low m c.args.values.now c.loop-value.value-index c.moved.result c.marks-marks_sum.result c.loop-value.marks_sum _ c.loop-value-test.true c.moved.ensures c.marks-marks_sum.ensures c.loop-value.invariant.marks;
     }
 
 -- all that was counted
