@@ -4,7 +4,7 @@ use Rattle.std.specs.Prelude.{All, FitsSigned, unsigned_abs, ◌==◌, if◌then
 use Rattle.std.proofs.Math.Nat.{mul-le-mul_right, mul-le-mul_left, div-mul-le_self, pow-le-pow_right}
 use Rattle.std.proofs.Math.Pow.{pow_pos}
 use Rattle.std.proofs.lemmas.Int.{ints, unsigned_abs-mul, fits_signed_from_abs}
-use Rattle.std.proofs.lemmas.List.{get_or-map, get_or_default, get_or-reverse, length-reverse, reverse-reverse, reverse-append, map-append, take_at, drop_at, take-map, drop-map, length-map, length-drop, length-append, append-nil, drop_all, ext_get_or}
+use Rattle.std.proofs.lemmas.List.{get_or-map, get_or_default, length-reverse, reverse-reverse, take_at, drop_at, take-map, drop-map, length-map, length-drop, length-append, append-nil, drop_all, ext_get_or}
 use borrow.Rule.Slice.PartMut.{put_mid, post_of}
 use Rattle.std.proofs.lemmas.List.Elements.{All-take, All-map, All-append}
 use Rattle.mlp_arith.specs.Words.{floor_by}
@@ -18,14 +18,9 @@ use Rattle.mlp_search.specs.declared.pair.Pair.{Pair}
 use Rattle.mlp_search.specs.Candidates.{past_for, residuals_for}
 use Rattle.mlp_search.specs.Folded.{stepped}
 use Rattle.mlp_search.specs.Lines.{low_part, IsLight, IsLine, alone_by, left_in}
-use Rattle.mlp_search.proofs.LineLaws.{dot_within, floor_size, floor_nest, residuals_stepped, left_at, left_length, coefficient_sizes}
+use Rattle.mlp_search.proofs.LineLaws.{all_reverse, map_reverse, dot_within, floor_size, floor_nest, residuals_stepped, left_at, left_length, coefficient_sizes}
 
 -- ---- sizes
-
-pub all_reverse : (P : ℤ → Type 0) (xs : List ℤ) → All P xs → All P (reverse xs)
-all_reverse P xs h = λ k d l.
-    let lt : k < length xs = omega (arith, l, length-reverse xs) in
-    subst P (sym (get_or-reverse xs k d lt)) (h (length xs - 1 - k) d (omega (arith, lt)))
 
 size_steps : (v : ℤ) (n : ℕ) → unsigned_abs (v *ℤ pos n) ≡ unsigned_abs v * n
 size_steps v n = unsigned_abs-mul v (pos n)
@@ -119,14 +114,6 @@ split_fit fs s q whole few le step coeffs small =
     split_floor s q (dot fs (reverse (take (8 + k) whole))) le step (omega (arith, all, few)))
 
 -- ---- the residuals of a block
-
-map_reverse : (f : ℤ → ℤ) (xs : List ℤ) → map f (reverse xs) ≡ reverse (map f xs)
-map_reverse f [] = refl
-map_reverse f (x ∷ xs) =
-    ap (map f) (reverse-append (x ∷ []) xs)
-    ∙ map-append f (reverse xs) (x ∷ [])
-    ∙ ap (λ (ys : List ℤ). ys ++ f x ∷ []) (map_reverse f xs)
-    ∙ sym (reverse-append (f x ∷ []) (map f xs))
 
 pub scaled_none : (vs : List ℤ) → scaled 0 vs ≡ vs
 scaled_none [] = refl

@@ -5,8 +5,8 @@ use Rattle.std.proofs.Math.IntN.{*ℤ_comm, *ℤ-zero, suc_ℤ-*ℤ}
 use Rattle.std.proofs.Math.Nat.{div-div-eq-div-mul, div-le_self, mul-le-mul, mul-le-mul_right}
 use Rattle.std.proofs.Math.Pow.{pow_pos, pow-add}
 use Rattle.std.proofs.lemmas.Int.{ints, unsigned_abs-mul, to_z-of_z, int_wrap_fits}
-use Rattle.std.proofs.lemmas.List.{reverse-append, get_or-drop, drop-take, take-take, take-append-drop, length-drop, take-map, drop-map, ext_get_or}
-use Rattle.std.proofs.lemmas.List.Elements.{All-take, All-drop, All-map}
+use Rattle.std.proofs.lemmas.List.{reverse-append, get_or-drop, get_or-reverse, drop-take, take-take, take-append-drop, length-drop, length-reverse, take-map, map-append, ext_get_or}
+use Rattle.std.proofs.lemmas.List.Elements.{All-take, All-map}
 use Rattle.mlp_arith.specs.Words.{floor_by, clear, wrap}
 use Rattle.mlp_arith.specs.Ranges.{Is26}
 use Rattle.mlp_arith.proofs.Floors.{add-mul}
@@ -177,15 +177,12 @@ high_size (negsuc n) h = omega (arith, ints, h.low, h.high)
 low_size : (v : ℤ) → unsigned_abs (low_part v) * 1 ≤ 8191
 low_size v = omega (arith, ints, clear_le 13 v, lt_clear 13 v)
 
-in_window : (P : ℤ → Type 0) (xs : List ℤ) (a b : ℕ) → All P xs → All P (take a (drop b xs))
-in_window P xs a b h = All-take P a (drop b xs) (All-drop P b xs h)
-
 -- light coefficients over 26 bits
-pub light_bound : (cs xs : List ℤ) (a b : ℕ) → All IsLight cs → All Is26 xs → length cs ≤ 4 → unsigned_abs (dot cs (take a (drop b xs))) ≤ 2013265920
-light_bound cs xs a b light small few =
+pub light_bound : (cs vs : List ℤ) → All IsLight cs → All Is26 vs → length cs ≤ 4 → unsigned_abs (dot cs vs) ≤ 2013265920
+light_bound cs vs light small few =
     let sizes : All (λ (c : ℤ). unsigned_abs c ≤ 15) cs = λ k d l. (let h = light k d l in omega (arith, ints, h.low, h.high)) in
-    let seen : All (λ (v : ℤ). unsigned_abs v * 1 ≤ 33554432) (take a (drop b xs)) = in_window (λ (v : ℤ). unsigned_abs v * 1 ≤ 33554432) xs a b (λ k d l. (let h = small k d l in omega (arith, ints, h.low, h.high))) in
-    let all = dot_within 15 33554432 1 cs (take a (drop b xs)) sizes seen in
+    let seen : All (λ (v : ℤ). unsigned_abs v * 1 ≤ 33554432) vs = λ k d l. (let h = small k d l in omega (arith, ints, h.low, h.high)) in
+    let all = dot_within 15 33554432 1 cs vs sizes seen in
     omega (arith, all, few)
 
 pub coefficient_sizes : (cs : List ℤ) → All IsCoefficient cs → All (λ (c : ℤ). unsigned_abs c ≤ 32768) cs
@@ -262,12 +259,26 @@ split_less s y h l cs highs lows vs le small coeffs all few he le2 hs ls =
       rest = less (s - 13) y (to_z w32 (of_z w32 h) +ℤ to_z w32 (of_z w32 (floor_by 13 (to_z w32 (of_z w32 l))))) (dh +ℤ floor_by 13 dl) (floor_by s (dot cs vs)) small size whole (floor_split s dl dh (dot cs vs) le (dot_split cs vs));
     }
 
--- a window of parts
-pub window_parts : (f : ℤ → ℤ) (xs parts : List ℤ) (a b : ℕ) → parts ≡ map f xs → take a (drop b parts) ≡ map f (take a (drop b xs))
-window_parts f xs parts a b e = ap (λ (ys : List ℤ). take a (drop b ys)) e ∙ ap (take a) (drop-map f b xs) ∙ take-map f a (drop b xs)
+-- ---- the values before a place, the latest first
 
-pub window_small : (xs : List ℤ) (a b : ℕ) → All Is26 xs → All Is26 (take a (drop b xs))
-window_small xs a b h = in_window Is26 xs a b h
+pub all_reverse : (P : ℤ → Type 0) (xs : List ℤ) → All P xs → All P (reverse xs)
+all_reverse P xs h = λ k d l.
+    let lt : k < length xs = omega (arith, l, length-reverse xs) in
+    subst P (sym (get_or-reverse xs k d lt)) (h (length xs - 1 - k) d (omega (arith, lt)))
+
+pub map_reverse : (f : ℤ → ℤ) (xs : List ℤ) → map f (reverse xs) ≡ reverse (map f xs)
+map_reverse f [] = refl
+map_reverse f (x ∷ xs) =
+    ap (map f) (reverse-append (x ∷ []) xs)
+    ∙ map-append f (reverse xs) (x ∷ [])
+    ∙ ap (λ (ys : List ℤ). ys ++ f x ∷ []) (map_reverse f xs)
+    ∙ sym (reverse-append (f x ∷ []) (map f xs))
+
+pub before_small : (xs : List ℤ) (n : ℕ) → All Is26 xs → All Is26 (reverse (take n xs))
+before_small xs n h = all_reverse Is26 (take n xs) (All-take Is26 n xs h)
+
+pub before_parts : (f : ℤ → ℤ) (xs parts : List ℤ) (n : ℕ) → parts ≡ map f xs → reverse (take n parts) ≡ map f (reverse (take n xs))
+before_parts f xs parts n e = ap (λ (ys : List ℤ). reverse (take n ys)) e ∙ ap reverse (take-map f n xs) ∙ sym (map_reverse f (take n xs))
 
 -- ---- a whole block
 

@@ -1,7 +1,7 @@
 -- What filters leave whose IIR takes half of the latest difference away, by the rises of samples.
-use Rattle.std.proofs.Common.{◌≡◌, ℕ, zero, suc, ◌+◌, ◌-◌, ◌^◌, ◌<◌, ◌≤◌, ℤ, pos, negsuc, neg_ℤ, ◌+ℤ◌, ◌-ℤ◌, ◌*ℤ◌, List, [], ◌∷◌, ◌++◌, length, take, drop, map, get_or, reverse, arith, refl, sym, ◌∙◌, ap, subst, append_assoc, add-one, to_z, of_z, ◌%◌, ◌*◌, w32}
+use Rattle.std.proofs.Common.{◌≡◌, ℕ, suc, ◌+◌, ◌^◌, ◌<◌, ◌≤◌, ℤ, pos, negsuc, neg_ℤ, ◌+ℤ◌, ◌-ℤ◌, ◌*ℤ◌, List, [], ◌∷◌, ◌++◌, length, take, drop, map, get_or, reverse, arith, refl, sym, ◌∙◌, ap, subst, append_assoc, add-one, to_z, of_z, ◌%◌, ◌*◌, w32}
 use Rattle.std.specs.Prelude.{All, FitsSigned, unsigned_abs}
-use Rattle.std.proofs.Math.IntN.{*ℤ_comm, *ℤ-zero, neg_ℤ-neg_ℤ}
+use Rattle.std.proofs.Math.IntN.{*ℤ_comm, *ℤ-zero}
 use Rattle.std.proofs.Math.ListN.{set}
 use Rattle.std.proofs.Math.Pow.{pow_pos, pow-lt}
 use Rattle.std.proofs.Math.Seq.{drop-cons, take-suc-set}
@@ -11,7 +11,7 @@ use Rattle.std.proofs.lemmas.List.Elements.{All-cons, All-nil}
 use Rattle.mlp_arith.specs.Words.{floor_by, clear, wrap}
 use Rattle.mlp_arith.proofs.Floors.{add-mul}
 use Rattle.mlp_arith.proofs.Residues.{floor_by-add, clear_le, lt_clear}
-use Rattle.mlp_predict.specs.Prediction.{Past, Filters, dot, predicted, residuals_of}
+use Rattle.mlp_predict.specs.Prediction.{Past, dot, predicted, residuals_of}
 use Rattle.mlp_predict.specs.Filters.{scaled, filters_of, shift_where}
 use Rattle.mlp_predict.proofs.AloneLaws.{fir_alone, past_by}
 use Rattle.mlp_residual.proofs.Codes.{floor_multiple}

@@ -41,6 +41,16 @@ fn wrapped_dot<const M: usize>(coeffs: &[i32; M], values: &[i32]) -> i32
     sum
 }
 
+/// The sum of coefficients times the values before value `i` of the block, wrapped to 32 bits, the first for the oldest.
+#[inline(always)]
+fn dot_before<const M: usize>(fir: &[i32; M], line: &[i32], i: usize) -> i32
+    requires few { M ≤ 8 }
+    requires within { 8 + i < length line.now }
+    ensures { result ≡ wrap (dot (reverse fir.now) (reverse (take (8 + i) line.now))) }
+{
+    wrapped_dot(fir, &line[8 + i - M..8 + i])
+}
+
 /// Value `i` of the block less its prediction by light coefficients, the first for the oldest value.
 #[inline(always)]
 fn light_at<const M: usize>(fir: &[i32; M], shift: u8, whole: &[i32], i: usize) -> i32
@@ -52,7 +62,7 @@ fn light_at<const M: usize>(fir: &[i32; M], shift: u8, whole: &[i32], i: usize) 
     ensures { result ≡ get_or whole.now (8 + i) (pos 0)
         -ℤ floor_by shift (dot (reverse fir.now) (reverse (take (8 + i) whole.now))) }
 {
-    let sum = wrapped_dot(fir, &whole[8 + i - M..8 + i]);
+    let sum = dot_before(fir, whole, i);
     whole[8 + i] - (sum >> shift)
 }
 
@@ -77,8 +87,8 @@ fn split_at<const M: usize>(
     ensures { result ≡ get_or whole.now (8 + i) (pos 0)
         -ℤ floor_by shift (dot (reverse fir.now) (reverse (take (8 + i) whole.now))) }
 {
-    let high_sum = wrapped_dot(fir, &high[8 + i - M..8 + i]);
-    let low_sum = wrapped_dot(fir, &low[8 + i - M..8 + i]);
+    let high_sum = dot_before(fir, high, i);
+    let low_sum = dot_before(fir, low, i);
     whole[8 + i] - ((high_sum + (low_sum >> 13)) >> (shift - 13))
 }
 

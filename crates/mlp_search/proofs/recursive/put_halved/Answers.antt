@@ -5,7 +5,8 @@ use Rattle.std.proofs.lemmas.List.{length-reverse}
 use Rattle.mlp_arith.specs.Ranges.{Is26}
 use Rattle.mlp_search.specs.Folded.{stepped}
 use Rattle.mlp_search.specs.Lines.{alone_by, left_in, halved}
-use Rattle.mlp_search.proofs.LineFits.{all_reverse, rises_small}
+use Rattle.mlp_search.proofs.LineFits.{rises_small}
+use Rattle.mlp_search.proofs.LineLaws.{all_reverse}
 use Rattle.mlp_search.proofs.RecursiveLaws.{halved_block, halved_fits}
 use Rattle.mlp_search.proofs.recursive.put_halved.Goals as goal
 
