@@ -41,7 +41,8 @@ fn wrapped_dot<const M: usize>(coeffs: &[i32; M], values: &[i32]) -> i32
     sum
 }
 
-/// The sum of coefficients times the values before value `i` of the block, wrapped to 32 bits, the first for the oldest.
+/// The sum of coefficients, the first for the oldest value, times the values before value `i` of the block, wrapped to
+/// 32 bits.
 #[inline(always)]
 fn dot_before<const M: usize>(fir: &[i32; M], line: &[i32], i: usize) -> i32
     requires few { M ≤ 8 }

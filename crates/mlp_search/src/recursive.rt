@@ -80,7 +80,8 @@ fn halve(step: u8, first: i32, values: &mut [i32])
     }
 }
 
-/// Puts what is left of the block behind an excess, by a FIR of which these are a quarter, the first for the oldest value.
+/// Puts what is left of the block behind an excess, by a FIR of which these are a quarter, the first for the oldest
+/// value.
 #[inline(always)]
 fn put_halved<const M: usize>(
     taps: &[i32; M],
@@ -122,8 +123,8 @@ fn takes_half(fir: &Filter<8>, iir: &Filter<4>) -> bool
     fir.shift == 2 && fir.coeff_shift == 0 && iir.coeff_shift == 0
 }
 
-/// How far the latest prediction was above its sample, as the filters of a number with one difference see it; None where
-/// that is far.
+/// How far the latest prediction was above its sample, as the filters of a number with one difference see it; None
+/// where that is far.
 fn excess_before(history: &Predictor<8, 4>, number: u8) -> Option<i32>
     ensures few { IfSome result (λ g. unsigned_abs g ≤ 2 ^ 29) }
     ensures seen { (pair : Pair) → order_of pair.iir ≡ 1 → IfSome result (λ g.
