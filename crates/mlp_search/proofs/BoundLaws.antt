@@ -62,15 +62,9 @@ pub same_order : (m n d : ℕ) → 0 < d → m ≤ n → m / d ≤ n / d
 same_order m n d some le = le-div (m / d) n d some (omega (arith, div-mul-le_self m d, le))
 
 -- by the width of a number
-pub wide_none : (a m b s : ℕ) → 2 ^ m ≤ 2 * a + 1 → s ≤ 32 → b + 6 ≤ m → s ≤ a / 2 ^ b
-wide_none a m b s wide few le =
-    let more : 2 ^ (b + 6) ≤ 2 ^ m = pow-le-pow_right (omega arith) le in
-    let parts : 2 ^ (b + 6) ≡ 2 ^ b * 64 = pow-add 2 b 6 in
-    let there : 32 ≤ a / 2 ^ b = le-div 32 a (2 ^ b) (pow_pos b) (omega (arith, wide, more, parts)) in
+pub wide_none : (a m b s j : ℕ) → 2 ^ m ≤ 2 * a + 1 → s ≤ 2 ^ j → b + j + 1 ≤ m → s ≤ a / 2 ^ b
+wide_none a m b s j wide few le =
+    let more : 2 ^ (b + j + 1) ≤ 2 ^ m = pow-le-pow_right (omega arith) le in
+    let parts : 2 ^ (b + j + 1) ≡ 2 ^ j * 2 ^ b * 2 = pow-add 2 (b + j) 1 ∙ ap (λ (n : ℕ). n * 2) (pow-add 2 b j ∙ omega arith) in
+    let there : 2 ^ j ≤ a / 2 ^ b = le-div (2 ^ j) a (2 ^ b) (pow_pos b) (omega (arith, wide, more, parts)) in
     omega (arith, there, few)
-
-pub wide_some : (a m b : ℕ) → 2 ^ m ≤ 2 * a + 1 → b + 1 ≤ m → 1 ≤ a / 2 ^ b
-wide_some a m b wide le =
-    let more : 2 ^ (b + 1) ≤ 2 ^ m = pow-le-pow_right (omega arith) le in
-    let parts : 2 ^ (b + 1) ≡ 2 ^ b * 2 = pow-add 2 b 1 in
-    le-div 1 a (2 ^ b) (pow_pos b) (omega (arith, wide, more, parts))

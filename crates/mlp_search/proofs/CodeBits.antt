@@ -1,5 +1,5 @@
--- The bits that codes take: one number, not below their low bits, and not above 40 each.
-use Rattle.std.proofs.Common.{◌≡◌, ℕ, ◌*◌, ◌<◌, ◌≤◌, ℤ, false, List, [], ◌∷◌, length, Option, Some, None, arith, refl, ap, subst}
+-- The bits that codes take: one number, and not above 40 each.
+use Rattle.std.proofs.Common.{◌≡◌, ℕ, ◌*◌, ◌<◌, ◌≤◌, ℤ, false, List, [], ◌∷◌, length, Option, Some, None, arith, refl, ap}
 use Rattle.std.specs.Prelude.{IfSome, IfNone}
 use Rattle.std.proofs.lemmas.Bool.{ltb-false, le-ltb}
 use Rattle.mlp_residual.specs.Coding.{TakeBits, Counts}
@@ -37,17 +37,6 @@ most_taken book b step offset (r ∷ rs) n l h =
 pub most_counted : (book b step : ℕ) (offset : ℤ) (rs : List ℤ) (o : Option ℕ) → b < 32 → length rs ≤ 160 → IfSome o (TakeBits book b offset step rs) → IfSome o (λ n. n ≤ 6400)
 most_counted book b step offset rs None l few h = tt
 most_counted book b step offset rs (Some n) l few h = omega (arith, most_taken book b step offset rs n l h, few)
-
-fewest_taken : (book b step : ℕ) (offset : ℤ) (rs : List ℤ) (n : ℕ) → TakeBits book b offset step rs n → b * length rs ≤ n
-unfolding TakeBits
-fewest_taken book b step offset [] n h = omega (arith, h)
-fewest_taken book b step offset (r ∷ rs) n h =
-    let later = fewest_taken book b step offset rs h.1 h.3 in
-    omega (arith, later, h.4, length_is book b h.0)
-
-pub fewest_bits : (book b step : ℕ) (offset : ℤ) (rs : List ℤ) (n : ℕ) → bits_for book b offset step rs ≡ Some n → b * length rs ≤ n
-fewest_bits book b step offset rs n e =
-    fewest_taken book b step offset rs n (subst (λ (o : Option ℕ). Counts book b offset step rs o) e (bits_counted book b offset step rs))
 
 -- ---- choices that can't be better
 

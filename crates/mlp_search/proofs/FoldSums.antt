@@ -194,3 +194,8 @@ later_fewest book b sum power count us two e same le = half_fewest book b sum po
 -- .. whatever the number of low bits
 pub least_any : (book b sum twice : ℕ) (us : List ℕ) → 0 < book → sum ≤ raised_sum us → ((k : ℕ) → twice ≤ (2 * k + 1) * length us + sum / 2 ^ k) → (twice + 1) / 2 ≤ length us * b + all_symbol_bits book b us
 least_any book b sum twice us some le bound = omega (arith, fewest_any book b sum us some le, bound (bound_of book b))
+
+-- the least symbols
+pub least_symbols : (book b symbol : ℕ) (us : List ℕ) → ((p : ℕ) → symbol ≤ symbol_bits book p) → length us * symbol ≤ all_symbol_bits book b us
+least_symbols book b symbol [] each = omega arith
+least_symbols book b symbol (u ∷ us) each = omega (arith, each (u / 2 ^ b), least_symbols book b symbol us each)

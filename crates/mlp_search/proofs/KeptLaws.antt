@@ -11,13 +11,13 @@ use Rattle.mlp_search.specs.declared.choice.Choice.{Choice}
 use Rattle.mlp_search.specs.declared.trial.Trial.{Trial}
 use Rattle.mlp_search.specs.declared.sides.Side.{Side}
 use Rattle.mlp_search.specs.Cost.{most_low, bits_for, parameter_sum, cost_over}
-use Rattle.mlp_search.specs.Folded.{stepped, all_folded, top_of, all_symbol_bits}
+use Rattle.mlp_search.specs.Folded.{stepped, symbol_bits, all_folded, top_of, all_symbol_bits}
 use Rattle.mlp_search.specs.Least.{is_better, better, least_from, choice_of, with_offsets, with_lows}
 use Rattle.mlp_search.specs.Trial.{Writes, IsSide}
 use Rattle.mlp_search.proofs.CandidateLaws.{ranges}
-use Rattle.mlp_search.proofs.CodeBits.{fewest_bits, never_better}
+use Rattle.mlp_search.proofs.CodeBits.{never_better}
 use Rattle.mlp_search.proofs.CostLaws.{costs_from, parameters_is, offset_fits}
-use Rattle.mlp_search.proofs.FoldSums.{none_fit, all_fit}
+use Rattle.mlp_search.proofs.FoldSums.{none_fit, all_fit, least_symbols}
 use Rattle.mlp_search.proofs.Scanning.{Along, along_range, kept_scanned}
 
 -- ---- bounds
@@ -52,11 +52,22 @@ some_symbols (suc zero) = omega arith
 some_symbols (suc (suc zero)) = omega arith
 some_symbols (suc (suc (suc book))) = omega arith
 
-pub few_symbols : (book : ℕ) → symbols_of book ≤ 32
+-- the least power of 2 that is no less than the number of symbols
+abbrev pub room_of : ℕ → ℕ
+room_of zero = 0
+room_of (suc zero) = 5
+room_of (suc (suc book)) = 4
+
+pub few_symbols : (book : ℕ) → symbols_of book ≤ 2 ^ room_of book
 few_symbols zero = omega arith
 few_symbols (suc zero) = omega arith
 few_symbols (suc (suc zero)) = omega arith
 few_symbols (suc (suc (suc book))) = omega arith
+
+pub room_later : (book : ℕ) → 2 ≤ book → room_of book ≡ 4
+room_later zero le = absurd (omega (arith, le))
+room_later (suc zero) le = absurd (omega (arith, le))
+room_later (suc (suc book)) le = refl
 
 pub most_below_all : (book : ℕ) → most_low book ≤ 31
 most_below_all zero = omega arith
@@ -106,14 +117,6 @@ module _ (force : ChannelState) (step : ℕ) (t : Trial) (vs : List ℤ) (w : Wr
             cc
             )
 
-    -- the low bits alone
-    pub low_bound : (c : Choice) (k : ℕ) → c.filter ≡ t.number → c.offset ≡ s.offset → cost_over force step true t.pair (map (stepped step) vs) c ≡ Some k → s.base + length vs * (c.low - step) ≤ k
-    low_bound c k number at e =
-        let p = priced c k e in
-        let low = fewest_bits c.book (c.low - step) step c.offset (map (stepped step) vs) p.codes p.taken in
-        let each : (c.low - step) * length vs ≤ p.codes = subst (λ (n : ℕ). (c.low - step) * n ≤ p.codes) (length-map vs (stepped step)) low in
-        omega (arith, p.total, is.base c number at, each)
-
     -- what codes there are
     codes_are : (c : Choice) (k : ℕ) (p : Priced c k) → c.offset ≡ s.offset → 0 < symbols_of c.book → p.codes ≡ length vs * (c.low - step) + all_symbol_bits c.book (c.low - step) (all_folded s.offset vs)
     codes_are c k p at some = elim (cases_lt (top_of (all_folded c.offset vs) / 2 ^ (c.low - step)) (symbols_of c.book)) [
@@ -162,18 +165,22 @@ module _ (force : ChannelState) (step : ℕ) (t : Trial) (vs : List ℤ) (w : Wr
       (kept_outside (choice_of t.number book j t.middle) best (λ from most. absurd (omega (arith, most, over))), tt),
     )
 
-    more_low : (s : Side) (base low j : ℕ) → base ≤ s.base → low ≤ j → base + length vs * (low - step) ≤ s.base + length vs * (j - step)
-    more_low s base low j le up = omega (arith, le, mul-le-mul_left (length vs) (let l : low - step ≤ j - step = omega (arith, up) in l))
+    more_low : (s : Side) (book base low j symbol : ℕ) → base ≤ s.base → low ≤ j → ((p : ℕ) → symbol ≤ symbol_bits book p)
+        → base + length vs * (low - step + symbol) ≤ s.base + length vs * (j - step) + all_symbol_bits book (j - step) (all_folded s.offset vs)
+    more_low s book base low j symbol le up each =
+        let count : length (all_folded s.offset vs) ≡ length vs = length-map vs _ in
+        let symbols = least_symbols book (j - step) symbol (all_folded s.offset vs) each in
+        omega (arith, le, symbols, ap (λ (n : ℕ). n * symbol) count, mul-le-mul_left (length vs) (let l : low - step ≤ j - step = omega (arith, up) in l))
 
-    -- from low bits on that alone take as many bits as the best
-    pub low_behind : (book base low j : ℕ) (best : Option Choice) → low ≤ j → base ≤ z.base → base ≤ m.base → is_better (base + length vs * (low - step)) best ≡ false
+    -- from low bits on that take as many bits as the best with the least symbols
+    pub low_behind : (book base low j symbol : ℕ) (best : Option Choice) → low ≤ j → base ≤ z.base → base ≤ m.base → ((p : ℕ) → symbol ≤ symbol_bits book p) → is_better (base + length vs * (low - step + symbol)) best ≡ false
         → Along (λ c. better best c (cost_over force step true t.pair (map (stepped step) vs) c) ≡ best) (with_offsets t.number t.middle book j)
-    low_behind book base low j best up zle mle h = (
-      bounded (cost_over force step true t.pair (map (stepped step) vs)) (base + length vs * (low - step)) best (choice_of t.number book j (pos 0)) h
-          (λ k e. let l = low_bound z zis (choice_of t.number book j (pos 0)) k refl (sym zat) e in omega (arith, l, more_low z base low j zle up)),
+    low_behind book base low j symbol best up zle mle each h = (
+      bounded (cost_over force step true t.pair (map (stepped step) vs)) (base + length vs * (low - step + symbol)) best (choice_of t.number book j (pos 0)) h
+          (λ k e. code_bound z zis (choice_of t.number book j (pos 0)) k (base + length vs * (low - step + symbol)) refl (sym zat) (some_symbols book) (more_low z book base low j symbol zle up each) e),
       (
-        bounded (cost_over force step true t.pair (map (stepped step) vs)) (base + length vs * (low - step)) best (choice_of t.number book j t.middle) h
-            (λ k e. let l = low_bound m mis (choice_of t.number book j t.middle) k refl (sym mat) e in omega (arith, l, more_low m base low j mle up)),
+        bounded (cost_over force step true t.pair (map (stepped step) vs)) (base + length vs * (low - step + symbol)) best (choice_of t.number book j t.middle) h
+            (λ k e. code_bound m mis (choice_of t.number book j t.middle) k (base + length vs * (low - step + symbol)) refl (sym mat) (some_symbols book) (more_low m book base low j symbol mle up each) e),
         tt,
       ),
     )

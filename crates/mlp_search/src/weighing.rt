@@ -5,7 +5,7 @@ ghost use Rattle.std.specs.Int.{w32};
 ghost use Rattle.std.specs.List.{flat_map, range_with_len};
 ghost use Rattle.mlp_residual.specs.Coding.{symbols_of};
 ghost use Rattle.mlp_search.specs.Cost.{in_range, is_offset, most_low, cost_over};
-ghost use Rattle.mlp_search.specs.Folded.{stepped, all_folded, top_of, all_symbol_bits, raised_sum};
+ghost use Rattle.mlp_search.specs.Folded.{stepped, symbol_bits, all_folded, top_of, all_symbol_bits, raised_sum};
 ghost use Rattle.mlp_search.specs.Least.{is_better, better, least_from, choice_of, with_offsets, with_lows, with_books};
 ghost use Rattle.mlp_search.specs.Tally.{IsTally, AreTallies};
 ghost use Rattle.mlp_search.specs.Trial.{Writes, IsTrial, IsSide, IsSmall, AreSides};
@@ -210,12 +210,26 @@ fn first_low(step: u8, sides: &Sides, book: u8) -> u8
         (symbols_of book ≤ sides.now.zero.top / 2 ^ b) × (symbols_of book ≤ sides.now.middle.top / 2 ^ b) }
 {
     let width = 64 - sides.zero.top.min(sides.middle.top).leading_zeros();
-    let fewest = if book == 0 {
-        width
-    } else {
-        width.saturating_sub(5)
+    let fewest = match book {
+        0 => width,
+        1 => width.saturating_sub(5),
+        _ => width.saturating_sub(4),
     };
     (step + fewest as u8).min(most_low(book) + 1)
+}
+
+/// No more than the bits of any symbol of a book.
+fn least_symbol_bits(book: u8) -> u64
+    requires { book ≤ 3 }
+    ensures least { (p : ℕ) → result ≤ symbol_bits book p }
+    ensures few { result ≤ 3 }
+{
+    match book {
+        0 => 0,
+        1 => 3,
+        2 => 2,
+        _ => 1,
+    }
 }
 
 /// The best so far, with the choices of a book.
@@ -241,8 +255,10 @@ fn with_lows(
         (with_lows t.number t.middle book) }
 {
     let base = sides.zero.base.min(sides.middle.base);
+    let symbol = least_symbol_bits(book);
     for low in first_low(step, sides, book)..most_low(book) + 1 {
-        if !is_better(base + values.len() as u64 * u64::from(low - step), best) {
+        let each = u64::from(low - step) + symbol;
+        if !is_better(base + values.len() as u64 * each, best) {
             return best;
         }
         best = with_offsets(state, step, trial, sides, tallies, values, best, book, low);

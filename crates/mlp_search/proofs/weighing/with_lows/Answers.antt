@@ -14,14 +14,14 @@ loop-low-init c =
 
 pub returns-then-not-is_better : goal.returns-then-not-is_better
 returns-then-not-is_better c =
-    let bits : c.min-base.result + length c.args.values.now * c.from.result ≡ c.min-base.result + length c.args.values.now * (c.loop-low.low - c.args.step) = ap (λ (k : ℕ). c.min-base.result + length c.args.values.now * k) c.from.ensures in
-    let no : is_better (c.min-base.result + length c.args.values.now * (c.loop-low.low - c.args.step)) c.loop-low.best ≡ false =
-    ap (λ (n : ℕ). is_better n c.loop-low.best) (sym bits) ∙ sym c.is_better.ensures ∙ c.if-not-is_better.true
+    let each : c.from-each.result + c.least_symbol_bits-symbol.result ≡ c.loop-low.low - c.args.step + c.least_symbol_bits-symbol.result = ap (λ (k : ℕ). k + c.least_symbol_bits-symbol.result) c.from-each.ensures in
+    let no : is_better (c.min-base.result + length c.args.values.now * (c.loop-low.low - c.args.step + c.least_symbol_bits-symbol.result)) c.loop-low.best ≡ false =
+    ap (λ (k : ℕ). is_better (c.min-base.result + length c.args.values.now * k) c.loop-low.best) (sym each) ∙ sym c.is_better.ensures ∙ c.if-not-is_better.true
     in
     scan_stops (cost_over c.args.state.now c.args.step true c.args.trial.now.pair (map (stepped c.args.step) c.args.values.now)) (with_offsets c.args.trial.now.number c.args.trial.now.middle c.args.book) c.args.best c.loop-low.best c.loop-low.low 32
     (omega (arith, most_below_all c.args.book)) c.loop-low.invariant
     (λ j from to. low_behind c.args.state.now c.args.step c.args.trial.now c.args.values.now c.requires.writes c.args.sides.now.zero c.args.sides.now.middle c.requires.sides.zero c.requires.sides.middle c.requires.sides.at_zero c.requires.sides.at_middle
-    c.args.book c.min-base.result c.loop-low.low j c.loop-low.best from (omega (arith, c.min-base.ensures)) (omega (arith, c.min-base.ensures)) no)
+    c.args.book c.min-base.result c.loop-low.low j c.least_symbol_bits-symbol.result c.loop-low.best from (omega (arith, c.min-base.ensures)) (omega (arith, c.min-base.ensures)) c.least_symbol_bits-symbol.ensures.least no)
 
 pub loop-low-preserved : goal.loop-low-preserved
 loop-low-preserved c =
