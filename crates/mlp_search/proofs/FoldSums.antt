@@ -191,10 +191,6 @@ first_fewest book b sum power count us one e same le = half_fewest book b sum po
 pub later_fewest : (book b sum power count : ℕ) (us : List ℕ) → 2 ≤ book → power ≡ b → length us ≡ count → sum ≤ raised_sum us → ((2 * power + 1) * count + sum / 2 ^ power + 1) / 2 ≤ length us * b + all_symbol_bits book b us
 later_fewest book b sum power count us two e same le = half_fewest book b sum power count us (omega (arith, two)) (e ∙ sym (bound_later book b two)) same le
 
--- .. whatever the number of low bits
-pub least_any : (book b sum twice : ℕ) (us : List ℕ) → 0 < book → sum ≤ raised_sum us → ((k : ℕ) → twice ≤ (2 * k + 1) * length us + sum / 2 ^ k) → (twice + 1) / 2 ≤ length us * b + all_symbol_bits book b us
-least_any book b sum twice us some le bound = omega (arith, fewest_any book b sum us some le, bound (bound_of book b))
-
 -- the least symbols
 pub least_symbols : (book b symbol : ℕ) (us : List ℕ) → ((p : ℕ) → symbol ≤ symbol_bits book p) → length us * symbol ≤ all_symbol_bits book b us
 least_symbols book b symbol [] each = omega arith

@@ -13,7 +13,7 @@ use Rattle.mlp_search.specs.declared.sides.Side.{Side}
 use Rattle.mlp_search.specs.Cost.{most_low, bits_for, parameter_sum, cost_over}
 use Rattle.mlp_search.specs.Folded.{stepped, symbol_bits, all_folded, top_of, all_symbol_bits}
 use Rattle.mlp_search.specs.Least.{is_better, better, least_from, choice_of, with_offsets, with_lows}
-use Rattle.mlp_search.specs.Trial.{Writes, IsSide}
+use Rattle.mlp_search.specs.Trial.{Writes, IsSide, IsFewest}
 use Rattle.mlp_search.proofs.CandidateLaws.{ranges}
 use Rattle.mlp_search.proofs.CodeBits.{never_better}
 use Rattle.mlp_search.proofs.CostLaws.{costs_from, parameters_is, offset_fits}
@@ -51,23 +51,6 @@ some_symbols zero = omega arith
 some_symbols (suc zero) = omega arith
 some_symbols (suc (suc zero)) = omega arith
 some_symbols (suc (suc (suc book))) = omega arith
-
--- the least power of 2 that is no less than the number of symbols
-abbrev pub room_of : ℕ → ℕ
-room_of zero = 0
-room_of (suc zero) = 5
-room_of (suc (suc book)) = 4
-
-pub few_symbols : (book : ℕ) → symbols_of book ≤ 2 ^ room_of book
-few_symbols zero = omega arith
-few_symbols (suc zero) = omega arith
-few_symbols (suc (suc zero)) = omega arith
-few_symbols (suc (suc (suc book))) = omega arith
-
-pub room_later : (book : ℕ) → 2 ≤ book → room_of book ≡ 4
-room_later zero le = absurd (omega (arith, le))
-room_later (suc zero) le = absurd (omega (arith, le))
-room_later (suc (suc book)) le = refl
 
 pub most_below_all : (book : ℕ) → most_low book ≤ 31
 most_below_all zero = omega arith
@@ -118,13 +101,16 @@ module _ (force : ChannelState) (step : ℕ) (t : Trial) (vs : List ℤ) (w : Wr
             )
 
     -- what codes there are
-    codes_are : (c : Choice) (k : ℕ) (p : Priced c k) → c.offset ≡ s.offset → 0 < symbols_of c.book → p.codes ≡ length vs * (c.low - step) + all_symbol_bits c.book (c.low - step) (all_folded s.offset vs)
+    codes_are : (c : Choice) (k : ℕ) (p : Priced c k) → c.offset ≡ s.offset → 0 < symbols_of c.book
+        → (top_of (all_folded s.offset vs) / 2 ^ (c.low - step) < symbols_of c.book) × (p.codes ≡ length vs * (c.low - step) + all_symbol_bits c.book (c.low - step) (all_folded s.offset vs))
     codes_are c k p at some = elim (cases_lt (top_of (all_folded c.offset vs) / 2 ^ (c.low - step)) (symbols_of c.book)) [
       | inl lt ↦
           let all = all_fit c.book (c.low - step) step c.offset vs lt in
           let both : Some p.codes ≡ Some (length vs * (c.low - step) + all_symbol_bits c.book (c.low - step) (all_folded c.offset vs)) = sym p.taken ∙ all in
-          let same : p.codes ≡ length vs * (c.low - step) + all_symbol_bits c.book (c.low - step) (all_folded c.offset vs) = cc in
-          same ∙ ap (λ (z : ℤ). length vs * (c.low - step) + all_symbol_bits c.book (c.low - step) (all_folded z vs)) at
+          let same : p.codes ≡ length vs * (c.low - step) + all_symbol_bits c.book (c.low - step) (all_folded c.offset vs) = cc in (
+            subst (λ (z : ℤ). top_of (all_folded z vs) / 2 ^ (c.low - step) < symbols_of c.book) at lt,
+            same ∙ ap (λ (z : ℤ). length vs * (c.low - step) + all_symbol_bits c.book (c.low - step) (all_folded z vs)) at,
+          )
       | inr ge ↦
           absurd (
           let none = none_fit c.book (c.low - step) step c.offset vs ge some in
@@ -133,12 +119,14 @@ module _ (force : ChannelState) (step : ℕ) (t : Trial) (vs : List ℤ) (w : Wr
           )
     ]
 
-    -- the bits of the codes
-    pub code_bound : (c : Choice) (k m : ℕ) → c.filter ≡ t.number → c.offset ≡ s.offset → 0 < symbols_of c.book → m ≤ s.base + length vs * (c.low - step) + all_symbol_bits c.book (c.low - step) (all_folded s.offset vs)
+    -- the bits of the codes, where there are any
+    pub code_bound : (c : Choice) (k m : ℕ) → c.filter ≡ t.number → c.offset ≡ s.offset → 0 < symbols_of c.book
+        → (top_of (all_folded s.offset vs) / 2 ^ (c.low - step) < symbols_of c.book → m ≤ s.base + length vs * (c.low - step) + all_symbol_bits c.book (c.low - step) (all_folded s.offset vs))
         → cost_over force step true t.pair (map (stepped step) vs) c ≡ Some k → m ≤ k
     code_bound c k m number at some le e =
         let p = priced c k e in
-        omega (arith, p.total, is.base c number at, codes_are c k p at some, le)
+        let codes = codes_are c k p at some in
+        omega (arith, p.total, is.base c number at, codes.1, le codes.0)
 
   -- ---- both offsets
 
@@ -177,30 +165,34 @@ module _ (force : ChannelState) (step : ℕ) (t : Trial) (vs : List ℤ) (w : Wr
         → Along (λ c. better best c (cost_over force step true t.pair (map (stepped step) vs) c) ≡ best) (with_offsets t.number t.middle book j)
     low_behind book base low j symbol best up zle mle each h = (
       bounded (cost_over force step true t.pair (map (stepped step) vs)) (base + length vs * (low - step + symbol)) best (choice_of t.number book j (pos 0)) h
-          (λ k e. code_bound z zis (choice_of t.number book j (pos 0)) k (base + length vs * (low - step + symbol)) refl (sym zat) (some_symbols book) (more_low z book base low j symbol zle up each) e),
+          (λ k e. code_bound z zis (choice_of t.number book j (pos 0)) k (base + length vs * (low - step + symbol)) refl (sym zat) (some_symbols book) (λ codes. more_low z book base low j symbol zle up each) e),
       (
         bounded (cost_over force step true t.pair (map (stepped step) vs)) (base + length vs * (low - step + symbol)) best (choice_of t.number book j t.middle) h
-            (λ k e. code_bound m mis (choice_of t.number book j t.middle) k (base + length vs * (low - step + symbol)) refl (sym mat) (some_symbols book) (more_low m book base low j symbol mle up each) e),
+            (λ k e. code_bound m mis (choice_of t.number book j t.middle) k (base + length vs * (low - step + symbol)) refl (sym mat) (some_symbols book) (λ codes. more_low m book base low j symbol mle up each) e),
         tt,
       ),
     )
 
     -- a book in which all take as many bits as the best
-    pub book_kept : (book least : ℕ) (best : Option Choice) → 0 < book → least ≤ z.least → least ≤ m.least → is_better least best ≡ false
+    book_kept : (book bits : ℕ) (best : Option Choice) → 0 < book → book ≤ 3 → IsFewest vs z bits → IsFewest vs m bits → is_better bits best ≡ false
         → Along (λ c. better best c (cost_over force step true t.pair (map (stepped step) vs) c) ≡ best) (with_lows t.number t.middle book)
-    book_kept book least best some zle mle h =
+    book_kept book bits best some three zle mle h =
         along_range (λ c. better best c (cost_over force step true t.pair (map (stepped step) vs) c) ≡ best) (with_offsets t.number t.middle book) 0 32 (λ low from to. (
-          bounded (cost_over force step true t.pair (map (stepped step) vs)) least best (choice_of t.number book low (pos 0)) h
-              (λ k e. code_bound z zis (choice_of t.number book low (pos 0)) k least refl (sym zat) (some_symbols book) (omega (arith, zle, zis.least book (low - step) some)) e),
+          bounded (cost_over force step true t.pair (map (stepped step) vs)) bits best (choice_of t.number book low (pos 0)) h
+              (λ k e. code_bound z zis (choice_of t.number book low (pos 0)) k bits refl (sym zat) (some_symbols book) (zle book (low - step) some three) e),
           (
-            bounded (cost_over force step true t.pair (map (stepped step) vs)) least best (choice_of t.number book low t.middle) h
-                (λ k e. code_bound m mis (choice_of t.number book low t.middle) k least refl (sym mat) (some_symbols book) (omega (arith, mle, mis.least book (low - step) some)) e),
+            bounded (cost_over force step true t.pair (map (stepped step) vs)) bits best (choice_of t.number book low t.middle) h
+                (λ k e. code_bound m mis (choice_of t.number book low t.middle) k bits refl (sym mat) (some_symbols book) (mle book (low - step) some three) e),
             tt,
           ),
         ))
 
-    pub books_kept : (least : ℕ) (best : Option Choice) → least ≤ z.least → least ≤ m.least → is_better least best ≡ false
+    fewer : (s : Side) (a b : ℕ) → a ≤ b → IsFewest vs s b → IsFewest vs s a
+    fewer s a b le h = λ book low some three codes. omega (arith, le, h book low some three codes)
+
+    pub books_kept : (bits zbits mbits : ℕ) (best : Option Choice) → IsFewest vs z zbits → IsFewest vs m mbits → bits ≤ zbits → bits ≤ mbits → is_better bits best ≡ false
         → best ≡ least_from (cost_over force step true t.pair (map (stepped step) vs)) best (flat_map (with_lows t.number t.middle) (range_with_len 1 3))
-    books_kept least best zle mle h =
+    books_kept bits zbits mbits best zf mf zle mle h =
         sym (kept_scanned (cost_over force step true t.pair (map (stepped step) vs)) best (flat_map (with_lows t.number t.middle) (range_with_len 1 3))
-        (along_range (λ c. better best c (cost_over force step true t.pair (map (stepped step) vs) c) ≡ best) (with_lows t.number t.middle) 1 3 (λ book from to. book_kept book least best (omega (arith, from)) zle mle h)))
+        (along_range (λ c. better best c (cost_over force step true t.pair (map (stepped step) vs) c) ≡ best) (with_lows t.number t.middle) 1 3
+        (λ book from to. book_kept book bits best (omega (arith, from)) (omega (arith, to)) (fewer z bits zbits zle zf) (fewer m bits mbits mle mf) h)))

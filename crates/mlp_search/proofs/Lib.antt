@@ -20,6 +20,8 @@ pub mod ComputedPairs
 pub mod BoundLaws
 pub mod FoldSteps
 pub mod SumLaws
+pub mod WidthLaws
+pub mod SurveyLaws
 pub mod KeptLaws
 pub mod LineLaws
 pub mod LineFits

@@ -1,5 +1,5 @@
 -- Values folded onto numbers without a sign, and what their codes take.
-use Rattle.std.specs.Prelude.{ℕ, zero, suc, ◌+◌, ◌-◌, ◌*◌, ◌/◌, ◌^◌, max, nat_lt, List, [], ◌∷◌, map, ℤ, pos, negsuc, ◌-ℤ◌, ◌*ℤ◌, if◌then◌else◌}
+use Rattle.std.specs.Prelude.{ℕ, zero, suc, ◌+◌, ◌-◌, ◌*◌, ◌/◌, ◌^◌, max, nat_lt, List, [], ◌∷◌, map, ℤ, pos, negsuc, ◌-ℤ◌, ◌*ℤ◌, unsigned_abs, if◌then◌else◌}
 
 -- so many steps of 2^step
 abbrev pub stepped : ℕ → ℤ → ℤ
@@ -9,6 +9,21 @@ stepped step v = v *ℤ pos (2 ^ step)
 abbrev pub folded : ℤ → ℕ
 folded (pos n) = 2 * n
 folded (negsuc n) = 2 * n + 1
+
+-- 1 for a negative value
+abbrev pub negative : ℤ → ℕ
+negative (pos n) = 0
+negative (negsuc n) = 1
+
+-- how many values are negative
+abbrev pub negatives : List ℤ → ℕ
+negatives [] = 0
+negatives (v ∷ vs) = negative v + negatives vs
+
+-- the sum of the sizes of values
+abbrev pub sizes : List ℤ → ℕ
+sizes [] = 0
+sizes (v ∷ vs) = unsigned_abs v + sizes vs
 
 -- how many bits the symbol of a value takes, whose folded value over 2^b, of b low bits, this is
 abbrev pub symbol_bits : ℕ → ℕ → ℕ

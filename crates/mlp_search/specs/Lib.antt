@@ -2,6 +2,7 @@ pub mod Folded
 pub mod Candidates
 pub mod Given
 pub mod Cost
+pub mod Survey
 pub mod Trial
 pub mod Lines
 pub mod Tally

@@ -1,7 +1,7 @@
 //! Values folded onto numbers without a sign, and the bits that their symbols take.
 
 ghost use Rattle.std.specs.Prelude.{◌≡◌, ◌≤◌, ◌<◌, ◌+◌, ◌*◌, ◌/◌, ◌^◌, ◌-ℤ◌, ◌≤ℤ◌, ◌<ℤ◌, length, pos, neg_ℤ};
-ghost use Rattle.mlp_search.specs.Folded.{folded, symbol_bits, all_folded, top_of, all_symbol_bits, raised_sum};
+ghost use Rattle.mlp_search.specs.Folded.{folded, symbol_bits, all_folded, top_of, all_symbol_bits};
 
 /// A value, folded.
 #[inline]
@@ -45,44 +45,6 @@ pub(crate) fn moved_far(value: i32, offset: i16) -> u64
     ensures few { result < 2 ^ 34 }
 {
     folded_far(i64::from(value) - i64::from(offset))
-}
-
-/// No more than the sum of the folded values, each raised by 1.
-pub(crate) fn fold_sum(values: &[i32], offset: i16) -> u64
-    requires few { length values.now ≤ 160 }
-    requires small { top_of (all_folded offset values.now) < 2 ^ 30 }
-    ensures value { result ≤ raised_sum (all_folded offset values.now) }
-    ensures few { result < 2 ^ 32 }
-{
-    let mut sum: u32 = 0;
-    for value in values {
-        sum += moved(value, offset).min(16777214) + 1;
-    }
-    u64::from(sum)
-}
-
-/// How far a value lies from an offset.
-#[inline]
-fn distance(value: &i32, offset: i16) -> u32
-    requires { folded (value.now -ℤ offset) < 25165824 }
-    ensures twice { 2 * result ≤ folded (value.now -ℤ offset) + 1 }
-    ensures few { result ≤ 12582912 }
-{
-    (*value - i32::from(offset)).unsigned_abs()
-}
-
-/// Twice the sum of the distances, which is no more than the sum of the folded values, each raised by 1.
-pub(crate) fn distance_sum(values: &[i32], offset: i16) -> u64
-    requires few { length values.now ≤ 160 }
-    requires small { top_of (all_folded offset values.now) < 25165824 }
-    ensures value { result ≤ raised_sum (all_folded offset values.now) }
-    ensures few { result < 2 ^ 32 }
-{
-    let mut sum: u32 = 0;
-    for value in values {
-        sum += distance(value, offset);
-    }
-    2 * u64::from(sum)
 }
 
 /// How many bits a symbol takes, of a folded value over 2^b.

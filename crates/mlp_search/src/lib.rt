@@ -14,6 +14,7 @@ mod reduction;
 mod search;
 mod sides;
 mod sums;
+mod survey;
 mod tally;
 mod trial;
 mod weighing;

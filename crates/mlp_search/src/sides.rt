@@ -4,12 +4,13 @@ ghost use Rattle.std.specs.Prelude.{◌≡◌, ℕ, List, ◌≤◌, ◌<◌, �
 ghost use Rattle.mlp_params.specs.declared.state.ChannelState.{ChannelState};
 ghost use Rattle.mlp_residual.specs.Coding.{symbols_of};
 ghost use Rattle.mlp_search.specs.declared.choice.Choice.{Choice};
-ghost use Rattle.mlp_search.specs.Candidates.{least_of, greatest_of};
 ghost use Rattle.mlp_search.specs.Cost.{is_offset, parameter_sum};
 ghost use Rattle.mlp_search.specs.Folded.{folded, stepped, all_folded, top_of, all_symbol_bits, raised_sum};
+ghost use Rattle.mlp_search.specs.Survey.{IsSurvey};
 ghost use Rattle.mlp_search.specs.Trial.{Writes, IsTrial, IsSide, IsSmall, AreSides};
 
-use crate::folds::{distance_sum, fold_sum, moved_far};
+use crate::folds::moved_far;
+use crate::survey::Survey;
 use crate::trial::Trial;
 use mlp_params::ChannelState;
 
@@ -19,11 +20,13 @@ pub struct Side {
     pub offset: i16,
     /// The greatest folded value.
     pub top: u64,
+    /// How many bits it has.
+    pub width: u8,
     /// No more than the sum of the folded values, each raised by 1.
     pub sum: u64,
     /// No more than the bits of the parameters.
     pub base: u64,
-    /// No more than the bits of parameters and codes in any of the three books.
+    /// No more than the bits of parameters and codes in any of the three books, where all values have codes.
     pub least: u64,
 }
 
@@ -42,62 +45,89 @@ fn base_of(state: &ChannelState, trial: &Trial<'_>, offset: i16) -> u64
 }
 
 /// The greatest folded value.
-fn top_of(trial: &Trial<'_>, values: &[i32], offset: i16) -> u64
-    requires least { trial.now.least ≡ least_of values.now }
-    requires greatest { trial.now.greatest ≡ greatest_of values.now }
+fn top_of(survey: &Survey, values: &[i32], offset: i16) -> u64
+    requires { IsSurvey values.now survey.now }
     ensures value { result ≡ top_of (all_folded offset values.now) }
     ensures few { result < 2 ^ 34 }
 {
     if values.is_empty() {
         return 0;
     }
-    moved_far(trial.least, offset).max(moved_far(trial.greatest, offset))
+    moved_far(survey.least, offset).max(moved_far(survey.greatest, offset))
 }
 
-/// No more than the sum of the folded values, each raised by 1.
-fn sum_of(values: &[i32], offset: i16, top: u64) -> u64
+/// How many bits a number has.
+fn width_of(top: u64) -> u8
+    requires { top < 2 ^ 34 }
+    ensures under { 2 ^ result ≤ 2 * top + 1 }
+    ensures few { result ≤ 64 }
+{
+    (64 - top.leading_zeros()) as u8
+}
+
+/// A sum that gains `far` for some values and loses it for others, or 0.
+fn moved_sum(sum: u64, far: u64, gaining: u64, losing: u64) -> u64
+    requires sum { sum ≤ 4026531840 }
+    requires far { far ≤ 131072 }
+    requires gaining { gaining ≤ 320 }
+    requires losing { losing ≤ 320 }
+    ensures value { result ≡ sum + far * gaining - far * losing }
+    ensures few { result < 2 ^ 32 }
+{
+    (sum + far * gaining).saturating_sub(far * losing)
+}
+
+/// No more than the sum of the folded values, each raised by 1. Those are at least twice their sizes, and an offset takes
+/// no more from those on its side of 0 than it adds to those on the other.
+fn sum_of(survey: &Survey, values: &[i32], offset: i16) -> u64
     requires few { length values.now ≤ 160 }
-    requires top { top ≡ top_of (all_folded offset values.now) }
+    requires survey { IsSurvey values.now survey.now }
     ensures value { result ≤ raised_sum (all_folded offset values.now) }
     ensures few { result < 2 ^ 32 }
 {
-    if top >= 1073741824 {
-        return 0;
+    let sum = 2 * u64::from(survey.sizes);
+    let count = values.len() as u64;
+    let negatives = u64::from(survey.negatives);
+    let far = 2 * u64::from(offset.unsigned_abs());
+    if offset == 0 {
+        return sum + count.saturating_sub(negatives);
     }
-    if top >= 25165824 {
-        return fold_sum(values, offset);
+    if offset < 0 {
+        return moved_sum(sum, far, count, 2 * negatives);
     }
-    distance_sum(values, offset)
+    moved_sum(sum, far, 2 * negatives, count)
 }
 
-/// Of so many numbers of low bits the one for which a sum bounds the bits of `count` codes least.
-fn loosest(sum: u64, count: u64) -> u32
-    requires some { 0 < count }
-    requires few { count ≤ 160 }
-    ensures least { 0 < result → 2 * count ≤ sum / 2 ^ result }
-    ensures most { sum / 2 ^ result ≤ 4 * count }
-    ensures few { result < 64 }
-{
-    let quotient = sum / (2 * count);
-    if quotient == 0 {
-        return 0;
-    }
-    63 - quotient.leading_zeros()
-}
-
-/// Twice the bits of `count` codes in any of the three books, or less, where the folded values, each raised by 1, have
-/// at least this sum.
-fn twice_least(sum: u64, count: u64) -> u64
-    requires few { count ≤ 160 }
+/// No more than twice the bits of `count` codes, where the folded values, each raised by 1, have at least this sum: by the
+/// low bits of books 2 and 3, or by one more than those of book 1.
+pub(crate) fn twice_bits(sum: u64, count: u64, power: u64) -> u64
     requires sum { sum < 2 ^ 32 }
-    ensures value { (b : ℕ) → result ≤ (2 * b + 1) * count + sum / 2 ^ b }
+    requires few { count ≤ 160 }
+    requires power { power < 64 }
+    ensures value { result ≡ (2 * power + 1) * count + sum / 2 ^ power }
     ensures few { result < 2 ^ 33 }
 {
-    if count == 0 {
-        return 0;
-    }
-    let b = loosest(sum, count);
-    (2 * u64::from(b) + 1) * count + (sum >> b)
+    (2 * power + 1) * count + (sum >> power)
+}
+
+/// No more than the bits of `count` codes in any of the three books, by the width of the greatest folded value: they are
+/// as many as without a book, or their power is one of three.
+fn least_bits(sum: u64, count: u64, width: u8) -> u64
+    requires sum { sum < 2 ^ 32 }
+    requires few { count ≤ 160 }
+    requires width { width ≤ 64 }
+    ensures value { (book b : ℕ) (us : List ℕ) → 0 < book → length us ≡ count → sum ≤ raised_sum us →
+        2 ^ width ≤ 2 * top_of us + 1 → top_of us / 2 ^ b < symbols_of book →
+        result ≤ length us * b + all_symbol_bits book b us }
+    ensures few { result < 2 ^ 33 }
+{
+    let power = u64::from(width).saturating_sub(4);
+    let first = twice_bits(sum, count, power);
+    let second = twice_bits(sum, count, power + 1);
+    let third = twice_bits(sum, count, power + 2);
+    let twice = first.min(second).min(third);
+    let uncoded = count * u64::from(width);
+    uncoded.min((twice + 1) / 2)
 }
 
 /// The values moved by an offset.
@@ -110,23 +140,24 @@ pub(crate) fn side_of(
 ) -> Side
     requires few { length values.now ≤ 160 }
     requires writes { Writes state.now trial.now }
-    requires least { trial.now.least ≡ least_of values.now }
-    requires greatest { trial.now.greatest ≡ greatest_of values.now }
+    requires survey { IsSurvey values.now trial.now.survey }
     requires offset { is_offset step (map (stepped step) values.now) offset ≡ true }
     ensures side { IsSide state.now step trial.now values.now result }
     ensures offset { result.offset ≡ offset }
     ensures small { IsSmall result }
 {
-    let top = top_of(trial, values, offset);
-    let sum = sum_of(values, offset, top);
+    let top = top_of(&trial.survey, values, offset);
+    let width = width_of(top);
+    let sum = sum_of(&trial.survey, values, offset);
     let base = base_of(state, trial, offset);
-    let twice = twice_least(sum, values.len() as u64);
+    let codes = least_bits(sum, values.len() as u64, width);
     Side {
         offset,
         top,
+        width,
         sum,
         base,
-        least: base + (twice + 1) / 2,
+        least: base + codes,
     }
 }
 

@@ -1,9 +1,8 @@
 //! The filters of a number on trial: what they write, and the middle of what they leave.
 
-ghost use Rattle.std.specs.Prelude.{◌≡◌, ◌≤◌, ◌<◌, ◌+◌, ◌+ℤ◌, Some, None, if◌then◌else◌, length, map, slice_index_or, pos, neg_ℤ, ◌≤ℤ◌};
-ghost use Rattle.std.specs.Int.{int_min, int_max};
+ghost use Rattle.std.specs.Prelude.{◌≡◌, ◌≤◌, ◌+◌, ◌+ℤ◌, Some, None, if◌then◌else◌, length, pos, neg_ℤ, ◌≤ℤ◌};
 ghost use Rattle.mlp_arith.specs.Words.{floor_by};
-ghost use Rattle.mlp_search.specs.Candidates.{least_of, greatest_of, limited, middle_of};
+ghost use Rattle.mlp_search.specs.Candidates.{limited, middle_of};
 ghost use Rattle.mlp_params.specs.declared.state.ChannelState.{ChannelState};
 ghost use Rattle.mlp_search.specs.Given.{IsPair, with_zeros};
 ghost use Rattle.mlp_search.specs.Cost.{filter_bits, fir_bits, iir_bits};
@@ -11,6 +10,7 @@ ghost use Rattle.mlp_search.specs.Trial.{IsWriting, IsTrial};
 
 use crate::giving::{fir_stays, iir_stays};
 use crate::pair::PairRef;
+use crate::survey::{Survey, survey_of};
 use mlp_params::ChannelState;
 use mlp_syntax::Filter;
 
@@ -32,11 +32,9 @@ pub struct Trial<'a> {
     pub stays: bool,
     /// The bits of both filters where they are written.
     pub bits: u16,
-    /// The least of what they leave, in quantisation steps.
-    pub least: i32,
-    /// The greatest.
-    pub greatest: i32,
-    /// The middle of the two.
+    /// What they leave, in quantisation steps.
+    pub survey: Survey,
+    /// The middle of the least and the greatest.
     pub middle: i16,
 }
 
@@ -87,61 +85,6 @@ pub(crate) fn writing_of(state: &ChannelState, number: u8, pair: &PairRef<'_>) -
     }
 }
 
-/// The lesser of a value and a residual in quantisation steps.
-fn lesser(least: i32, step: u8, residual: &i32) -> i32
-    requires { step < 32 }
-    ensures { result ≡ int_min least (floor_by step residual.now) }
-{
-    least.min(*residual >> step)
-}
-
-/// The greater of a value and a residual in quantisation steps.
-fn greater(greatest: i32, step: u8, residual: &i32) -> i32
-    requires { step < 32 }
-    ensures { result ≡ int_max greatest (floor_by step residual.now) }
-{
-    greatest.max(*residual >> step)
-}
-
-/// The first residual in quantisation steps.
-fn first_of(step: u8, residuals: &[i32]) -> i32
-    requires step { step < 32 }
-    requires some { 0 < length residuals.now }
-    ensures { result ≡ floor_by step (slice_index_or residuals.now 0 (pos 0)) }
-{
-    residuals[0] >> step
-}
-
-/// The least residual in quantisation steps.
-fn least_of(step: u8, residuals: &[i32]) -> i32
-    requires { step < 32 }
-    ensures { result ≡ least_of (map (floor_by step) residuals.now) }
-{
-    if residuals.is_empty() {
-        return 0;
-    }
-    let mut least = first_of(step, residuals);
-    for residual in residuals {
-        least = lesser(least, step, residual);
-    }
-    least
-}
-
-/// The greatest residual in quantisation steps.
-fn greatest_of(step: u8, residuals: &[i32]) -> i32
-    requires { step < 32 }
-    ensures { result ≡ greatest_of (map (floor_by step) residuals.now) }
-{
-    if residuals.is_empty() {
-        return 0;
-    }
-    let mut greatest = first_of(step, residuals);
-    for residual in residuals {
-        greatest = greater(greatest, step, residual);
-    }
-    greatest
-}
-
 /// Half the sum of two values, rounded down.
 fn half(least: i32, greatest: i32) -> i64
     ensures { result ≡ floor_by 1 (least +ℤ greatest) }
@@ -181,21 +124,20 @@ pub(crate) fn trial_of<'a>(
 ) -> Trial<'a>
     requires pair { IsPair pair }
     requires step { step ≤ 8 }
+    requires few { length residuals.now ≤ 160 }
     ensures trial { (force : ChannelState) → IsWriting force number pair.entry writing.now →
         IsTrial force step residuals.now result }
     ensures number { result.number ≡ number }
     ensures pair { result.pair ≡ pair.entry }
 {
-    let least = least_of(step, residuals);
-    let greatest = greatest_of(step, residuals);
-    let middle = middle_of(least, greatest);
+    let survey = survey_of(step, residuals);
+    let middle = middle_of(survey.least, survey.greatest);
     Trial {
         number,
         pair,
         stays: writing.stays,
         bits: writing.bits,
-        least,
-        greatest,
+        survey,
         middle,
     }
 }

@@ -12,7 +12,7 @@ ghost use Rattle.mlp_search.specs.Trial.{Writes, IsTrial, IsSide, IsSmall, AreSi
 
 use crate::choice::Choice;
 use crate::costs::{most_low, parameter_sum};
-use crate::sides::{Side, Sides, sides_of};
+use crate::sides::{Side, Sides, sides_of, twice_bits};
 use crate::tally::{Tallies, Tally, symbols, tally_side};
 use crate::trial::Trial;
 use mlp_params::ChannelState;
@@ -69,7 +69,7 @@ fn fewest_bits(side: &Side, book: u8, b: u8, count: u64) -> u64
         return side.base + count * low_bits;
     }
     let power = if book == 1 { low_bits + 1 } else { low_bits };
-    let twice = (2 * power + 1) * count + (side.sum >> power);
+    let twice = twice_bits(side.sum, count, power);
     side.base + (twice + 1) / 2
 }
 
@@ -203,19 +203,22 @@ fn with_offsets(
 /// Fewer low bits than these leave some value without a code.
 fn first_low(step: u8, sides: &Sides, book: u8) -> u8
     requires step { step ≤ 8 }
+    requires zero { 2 ^ sides.now.zero.width ≤ 2 * sides.now.zero.top + 1 }
+    requires middle { 2 ^ sides.now.middle.width ≤ 2 * sides.now.middle.top + 1 }
+    requires few { sides.now.zero.width ≤ 64 }
     requires book { book ≤ 3 }
     ensures from { step ≤ result }
     ensures most { result ≤ most_low book + 1 }
     ensures none { (b : ℕ) → step + b < result →
         (symbols_of book ≤ sides.now.zero.top / 2 ^ b) × (symbols_of book ≤ sides.now.middle.top / 2 ^ b) }
 {
-    let width = 64 - sides.zero.top.min(sides.middle.top).leading_zeros();
+    let width = sides.zero.width.min(sides.middle.width);
     let fewest = match book {
         0 => width,
         1 => width.saturating_sub(5),
         _ => width.saturating_sub(4),
     };
-    (step + fewest as u8).min(most_low(book) + 1)
+    (step + fewest).min(most_low(book) + 1)
 }
 
 /// No more than the bits of any symbol of a book.

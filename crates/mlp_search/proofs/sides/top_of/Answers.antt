@@ -9,8 +9,8 @@ pub returns-clause-value : goal.returns-clause-value
 returns-clause-value c =
     let some : 0 < length c.args.values.now = grind (arith, c.is_empty.ensures, c.if-is_empty.false) in
     let e = to_z-of_z w16 c.args.offset c.ranges.offset in
-    let least : FitsSigned w32 c.args.trial.now.least = omega (arith, ints) in
-    let greatest : FitsSigned w32 c.args.trial.now.greatest = omega (arith, ints) in
-    let low = (rw (e, to_z-of_z w32 c.args.trial.now.least least) at c.moved_far.ensures.value) ∙ ap (λ (z : ℤ). folded (z -ℤ c.args.offset)) c.requires.least in
-    let high = (rw (e, to_z-of_z w32 c.args.trial.now.greatest greatest) at c.moved_far-2.ensures.value) ∙ ap (λ (z : ℤ). folded (z -ℤ c.args.offset)) c.requires.greatest in
+    let least : FitsSigned w32 c.args.survey.now.least = omega (arith, ints) in
+    let greatest : FitsSigned w32 c.args.survey.now.greatest = omega (arith, ints) in
+    let low = (rw (e, to_z-of_z w32 c.args.survey.now.least least) at c.moved_far.ensures.value) ∙ ap (λ (z : ℤ). folded (z -ℤ c.args.offset)) c.requires.least in
+    let high = (rw (e, to_z-of_z w32 c.args.survey.now.greatest greatest) at c.moved_far-2.ensures.value) ∙ ap (λ (z : ℤ). folded (z -ℤ c.args.offset)) c.requires.greatest in
     omega (arith, c.max.ensures, low, high, top_is c.args.offset c.args.values.now some)

@@ -6,6 +6,12 @@ use Rattle.mlp_search.proofs.KeptLaws.{most_below_all, none_before, none_behind,
 use Rattle.mlp_search.proofs.Scanning.{scan_more, scan_stops, scan_begins}
 use Rattle.mlp_search.proofs.weighing.with_lows.Goals as goal
 
+pub first_low-low-requires-clause-zero : goal.first_low-low-requires-clause-zero
+first_low-low-requires-clause-zero c = c.requires.sides.zero.under
+
+pub first_low-low-requires-clause-middle : goal.first_low-low-requires-clause-middle
+first_low-low-requires-clause-middle c = c.requires.sides.middle.under
+
 pub loop-low-init : goal.loop-low-init
 loop-low-init c =
     scan_begins (cost_over c.args.state.now c.args.step true c.args.trial.now.pair (map (stepped c.args.step) c.args.values.now)) (with_offsets c.args.trial.now.number c.args.trial.now.middle c.args.book) c.args.best c.first_low-low.result
@@ -14,7 +20,7 @@ loop-low-init c =
 
 pub returns-then-not-is_better : goal.returns-then-not-is_better
 returns-then-not-is_better c =
-    let each : c.from-each.result + c.least_symbol_bits-symbol.result ≡ c.loop-low.low - c.args.step + c.least_symbol_bits-symbol.result = ap (λ (k : ℕ). k + c.least_symbol_bits-symbol.result) c.from-each.ensures in
+    let each : c.from.result + c.least_symbol_bits-symbol.result ≡ c.loop-low.low - c.args.step + c.least_symbol_bits-symbol.result = ap (λ (k : ℕ). k + c.least_symbol_bits-symbol.result) c.from.ensures in
     let no : is_better (c.min-base.result + length c.args.values.now * (c.loop-low.low - c.args.step + c.least_symbol_bits-symbol.result)) c.loop-low.best ≡ false =
     ap (λ (k : ℕ). is_better (c.min-base.result + length c.args.values.now * k) c.loop-low.best) (sym each) ∙ sym c.is_better.ensures ∙ c.if-not-is_better.true
     in
