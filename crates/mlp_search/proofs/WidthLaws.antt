@@ -5,6 +5,7 @@ use Rattle.std.proofs.lemmas.Bool.{cases_lt, lt-ltb, le-ltb}
 use Rattle.std.proofs.Math.Nat.{mul-le-mul_left}
 use Rattle.mlp_residual.specs.Coding.{symbols_of}
 use Rattle.mlp_search.specs.Folded.{symbol_bits, top_of, all_symbol_bits, raised_sum}
+use Rattle.mlp_search.specs.Tally.{IsCounted}
 use Rattle.mlp_search.proofs.BoundLaws.{wide_none}
 use Rattle.mlp_search.proofs.FoldSums.{bound_of, fewest_any, least_symbols}
 
@@ -70,6 +71,14 @@ left_over book b w us under codes = elim (cases_lt (b + least_symbol book) w) [
       let symbols = least_symbols book b (least_symbol book) us (symbol_least book) in
       inl (omega (arith, symbols, mul-le-mul_left (length us) ge))
 ]
+
+-- .. which a tally counts
+pub counted : (book b w : ℕ) → 0 < book → book ≤ 3 → w ≤ b + room_of book → b + least_symbol book < w → IsCounted (w - 4) book b
+counted zero b w some three room symbol = absurd (omega (arith, some))
+counted (suc zero) b w some three room symbol = (omega (arith, room, symbol), omega (arith, room, symbol))
+counted (suc (suc zero)) b w some three room symbol = (omega (arith, room, symbol), omega (arith, room, symbol))
+counted (suc (suc (suc zero))) b w some three room symbol = (omega (arith, room, symbol), omega (arith, room, symbol))
+counted (suc (suc (suc (suc book)))) b w some three room symbol = absurd (omega (arith, three))
 
 -- .. so that the power is one of three
 in_three : (book b w : ℕ) → 0 < book → w ≤ b + room_of book → b + least_symbol book < w → (w - 4 ≤ bound_of book b) × (bound_of book b ≤ w - 4 + 2)

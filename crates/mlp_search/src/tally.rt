@@ -1,6 +1,6 @@
 //! The bits of symbols in several books and with several numbers of low bits, by one pass over the values.
 
-ghost use Rattle.std.specs.Prelude.{◌≡◌, ℕ, ◌≤◌, ◌<◌, ◌+◌, ◌*◌, ◌/◌, ◌^◌, List, length, ℤ, IfSome};
+ghost use Rattle.std.specs.Prelude.{◌≡◌, ℕ, ◌≤◌, ◌<◌, ◌+◌, ◌-◌, ◌*◌, ◌/◌, ◌^◌, List, length, ℤ, IfSome};
 ghost use Rattle.mlp_search.specs.Folded.{all_folded, top_of, all_symbol_bits};
 ghost use Rattle.mlp_search.specs.Tally.{IsTally, IsCounted};
 
@@ -105,7 +105,8 @@ pub(crate) fn tally_of(values: &[i32], offset: i16, low: u8) -> Tally
     requires low { low < 28 }
     requires within { top_of (all_folded offset values.now) / 2 ^ low < 16 }
     requires small { top_of (all_folded offset values.now) < 2 ^ 30 }
-    ensures { IsTally offset values.now result }
+    ensures sums { IsTally offset values.now result }
+    ensures low { result.low ≡ low }
 {
     let count = values.len() as u32;
     let sums = sums_of(values, offset, low);
@@ -167,7 +168,8 @@ pub struct Tallies {
 pub(crate) fn tally_side(values: &[i32], side: &Side, wanted: bool) -> Option<Tally>
     requires few { length values.now ≤ 160 }
     requires top { side.now.top ≡ top_of (all_folded side.now.offset values.now) }
-    ensures { IfSome result (λ t. IsTally side.now.offset values.now t) }
+    ensures sums { IfSome result (λ t. IsTally side.now.offset values.now t) }
+    ensures low { IfSome result (λ t. t.low ≡ side.now.width - 4) }
 {
     if !wanted {
         return None;
@@ -175,8 +177,7 @@ pub(crate) fn tally_side(values: &[i32], side: &Side, wanted: bool) -> Option<Ta
     if side.top >= 1073741824 {
         return None;
     }
-    let width = 64 - side.top.leading_zeros();
-    let low = width.saturating_sub(4) as u8;
+    let low = side.width.saturating_sub(4);
     if low >= 28 {
         return None;
     }

@@ -8,12 +8,12 @@ ghost use Rattle.mlp_search.specs.Cost.{in_range, is_offset, most_low, cost_over
 ghost use Rattle.mlp_search.specs.Folded.{stepped, symbol_bits, all_folded, top_of, all_symbol_bits, raised_sum};
 ghost use Rattle.mlp_search.specs.Least.{is_better, better, least_from, choice_of, with_offsets, with_lows, with_books};
 ghost use Rattle.mlp_search.specs.Tally.{IsTally, AreTallies};
-ghost use Rattle.mlp_search.specs.Trial.{Writes, IsTrial, IsSide, IsSmall, AreSides};
+ghost use Rattle.mlp_search.specs.Trial.{Writes, IsTrial, IsFewest, IsSide, IsSmall, AreSides};
 
 use crate::choice::Choice;
 use crate::costs::{most_low, parameter_sum};
 use crate::sides::{Side, Sides, sides_of, twice_bits};
-use crate::tally::{Tallies, Tally, symbols, tally_side};
+use crate::tally::{Tallies, Tally, fewest, symbols, tally_side};
 use crate::trial::Trial;
 use mlp_params::ChannelState;
 
@@ -269,6 +269,38 @@ fn with_lows(
     best
 }
 
+/// No more than the bits of parameters and codes in any of the three books, by a tally.
+fn counted_least(side: &Side, tally: &Tally, values: &[i32]) -> u64
+    requires few { length values.now ≤ 160 }
+    requires base { side.now.base ≤ 65561 }
+    requires top { side.now.top ≡ top_of (all_folded side.now.offset values.now) }
+    requires under { 2 ^ side.now.width ≤ 2 * side.now.top + 1 }
+    requires tally { IsTally side.now.offset values.now tally.now }
+    requires low { tally.now.low ≡ side.now.width - 4 }
+    ensures { IsFewest values.now side.now result }
+{
+    let count = values.len() as u64;
+    let uncoded = count * u64::from(side.width);
+    side.base + uncoded.min(fewest(tally, count))
+}
+
+/// No more than the bits of parameters and codes in any of the three books.
+fn side_least(side: &Side, tally: &Option<Tally>, values: &[i32]) -> u64
+    requires few { length values.now ≤ 160 }
+    requires base { side.now.base ≤ 65561 }
+    requires top { side.now.top ≡ top_of (all_folded side.now.offset values.now) }
+    requires under { 2 ^ side.now.width ≤ 2 * side.now.top + 1 }
+    requires least { IsFewest values.now side.now side.now.least }
+    requires tally { IfSome tally.now (λ t. IsTally side.now.offset values.now t) }
+    requires low { IfSome tally.now (λ t. t.low ≡ side.now.width - 4) }
+    ensures { IsFewest values.now side.now result }
+{
+    match tally {
+        Some(tally) => counted_least(side, tally, values),
+        None => side.least,
+    }
+}
+
 /// The best so far, with the choices of the three books.
 fn with_codebooks(
     state: &ChannelState,
@@ -294,6 +326,11 @@ fn with_codebooks(
         zero: tally_side(values, &sides.zero, is_better(sides.zero.least, best)),
         middle: tally_side(values, &sides.middle, is_better(sides.middle.least, best)),
     };
+    let zero = side_least(&sides.zero, &tallies.zero, values);
+    let middle = side_least(&sides.middle, &tallies.middle, values);
+    if !is_better(zero.min(middle), best) {
+        return best;
+    }
     for book in 1..4 {
         best = with_lows(state, step, trial, sides, &tallies, values, best, book);
     }
