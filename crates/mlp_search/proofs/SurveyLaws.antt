@@ -1,5 +1,5 @@
 -- The sum of folded values, by the sizes of the values and how many are negative.
-use Rattle.std.proofs.Common.{◌≡◌, ℕ, zero, suc, ◌+◌, ◌-◌, ◌*◌, ◌<◌, ◌≤◌, ℤ, pos, negsuc, neg_ℤ, ◌-ℤ◌, ◌≤ℤ◌, ◌<ℤ◌, List, [], ◌∷◌, length, map, drop, get_or, arith, ◌∙◌, ap, inl, inr}
+use Rattle.std.proofs.Common.{◌≡◌, ℕ, suc, ◌+◌, ◌-◌, ◌*◌, ◌<◌, ◌≤◌, ℤ, pos, negsuc, neg_ℤ, ◌-ℤ◌, ◌≤ℤ◌, ◌<ℤ◌, List, [], ◌∷◌, length, map, drop, get_or, arith, ◌∙◌, ap, inl, inr}
 use Rattle.std.specs.Prelude.{unsigned_abs}
 use Rattle.std.proofs.lemmas.Int.{ints}
 use Rattle.std.proofs.lemmas.Bool.{cases_lt}
@@ -52,19 +52,19 @@ farther_below n a = omega (arith, below (negsuc n -ℤ pos a) (suc n + a) (omega
 
 -- ---- all values
 
-pub raised_at_zero : (vs : List ℤ) → 2 * sizes vs + (length vs - negatives vs) ≤ raised_sum (all_folded (pos 0) vs)
+raised_at_zero : (vs : List ℤ) → 2 * sizes vs + (length vs - negatives vs) ≤ raised_sum (all_folded (pos 0) vs)
 raised_at_zero [] = omega arith
 raised_at_zero (pos n ∷ vs) =
     let same : pos n -ℤ pos 0 ≡ pos n = omega (arith, ints) in
     omega (arith, raised_at_zero vs, negatives_few vs, ap folded same)
 raised_at_zero (negsuc n ∷ vs) = omega (arith, raised_at_zero vs, negatives_few vs, below (negsuc n -ℤ pos 0) (suc n) (omega (arith, ints)))
 
-pub raised_above : (a : ℕ) (vs : List ℤ) → 2 * sizes vs + 2 * a * (2 * negatives vs) ≤ raised_sum (all_folded (pos a) vs) + 2 * a * length vs
+raised_above : (a : ℕ) (vs : List ℤ) → 2 * sizes vs + 2 * a * (2 * negatives vs) ≤ raised_sum (all_folded (pos a) vs) + 2 * a * length vs
 raised_above a [] = omega arith
 raised_above a (pos n ∷ vs) = omega (arith, raised_above a vs, nearer n a)
 raised_above a (negsuc n ∷ vs) = omega (arith, raised_above a vs, farther_below n a)
 
-pub raised_below : (a : ℕ) (vs : List ℤ) → 2 * sizes vs + 2 * a * length vs ≤ raised_sum (all_folded (neg_ℤ (pos a)) vs) + 2 * a * (2 * negatives vs)
+raised_below : (a : ℕ) (vs : List ℤ) → 2 * sizes vs + 2 * a * length vs ≤ raised_sum (all_folded (neg_ℤ (pos a)) vs) + 2 * a * (2 * negatives vs)
 raised_below a [] = omega arith
 raised_below a (pos n ∷ vs) = omega (arith, raised_below a vs, farther n a)
 raised_below a (negsuc n ∷ vs) = omega (arith, raised_below a vs, nearer_below n a)

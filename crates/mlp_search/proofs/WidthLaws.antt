@@ -1,6 +1,6 @@
 -- Which numbers of low bits are left, by the width of the greatest folded value.
-use Rattle.std.proofs.Common.{◌≡◌, ℕ, zero, suc, ◌+◌, ◌-◌, ◌*◌, ◌/◌, ◌^◌, ◌<◌, ◌≤◌, Bool, true, false, List, length, arith, refl, ap, subst, inl, inr}
-use Rattle.std.specs.Prelude.{min, nat_lt, ◌⊎◌, if◌then◌else◌}
+use Rattle.std.proofs.Common.{◌≡◌, ℕ, zero, suc, ◌+◌, ◌-◌, ◌*◌, ◌/◌, ◌^◌, ◌<◌, ◌≤◌, List, length, arith, refl, ap, subst, inl, inr}
+use Rattle.std.specs.Prelude.{min, ◌⊎◌}
 use Rattle.std.proofs.lemmas.Bool.{cases_lt, lt-ltb, le-ltb}
 use Rattle.std.proofs.Math.Nat.{mul-le-mul_left}
 use Rattle.mlp_residual.specs.Coding.{symbols_of}
@@ -27,7 +27,7 @@ room_later (suc zero) le = absurd (omega (arith, le))
 room_later (suc (suc book)) le = refl
 
 -- the bits of the shortest symbols
-abbrev pub least_symbol : ℕ → ℕ
+abbrev least_symbol : ℕ → ℕ
 least_symbol zero = 0
 least_symbol (suc zero) = 3
 least_symbol (suc (suc zero)) = 2
@@ -48,7 +48,7 @@ least_third book p = elim (cases_lt p 1) [
   | inr some ↦ let a = le-ltb p 1 some in rw a (omega (arith, some))
 ]
 
-pub symbol_least : (book p : ℕ) → least_symbol book ≤ symbol_bits book p
+symbol_least : (book p : ℕ) → least_symbol book ≤ symbol_bits book p
 symbol_least zero p = omega arith
 symbol_least (suc zero) p = least_first p
 symbol_least (suc (suc zero)) p = omega arith

@@ -1,6 +1,6 @@
 //! The two offsets that the filters on trial are weighed with.
 
-ghost use Rattle.std.specs.Prelude.{◌≡◌, ℕ, List, ◌≤◌, ◌<◌, ◌+◌, ◌-◌, ◌*◌, ◌/◌, ◌^◌, length, map, max, true, pos, FitsSigned, All};
+ghost use Rattle.std.specs.Prelude.{◌≡◌, ℕ, List, ◌≤◌, ◌<◌, ◌+◌, ◌-◌, ◌*◌, ◌/◌, ◌^◌, length, map, true};
 ghost use Rattle.mlp_params.specs.declared.state.ChannelState.{ChannelState};
 ghost use Rattle.mlp_residual.specs.Coding.{symbols_of};
 ghost use Rattle.mlp_search.specs.declared.choice.Choice.{Choice};
