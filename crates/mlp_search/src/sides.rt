@@ -131,6 +131,7 @@ fn least_bits(sum: u64, count: u64, width: u8) -> u64
 }
 
 /// The values moved by an offset.
+#[inline(always)]
 pub(crate) fn side_of(
     state: &ChannelState,
     step: u8,
@@ -169,6 +170,7 @@ pub struct Sides {
 }
 
 /// Both.
+#[inline(always)]
 pub(crate) fn sides_of(state: &ChannelState, step: u8, trial: &Trial<'_>, values: &[i32]) -> Sides
     requires trial { IsTrial state.now 0 values.now trial.now }
     requires few { length values.now ≤ 160 }

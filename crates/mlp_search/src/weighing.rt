@@ -114,6 +114,7 @@ fn cost_with_codes(
 }
 
 /// The best so far, with one choice more of the filters on trial.
+#[inline(always)]
 fn tried(
     state: &ChannelState,
     step: u8,
@@ -152,6 +153,7 @@ fn tried(
 }
 
 /// The best so far, with the choices of a book and low bits.
+#[inline(always)]
 fn with_offsets(
     state: &ChannelState,
     step: u8,
@@ -236,6 +238,7 @@ fn least_symbol_bits(book: u8) -> u64
 }
 
 /// The best so far, with the choices of a book.
+#[inline(always)]
 fn with_lows(
     state: &ChannelState,
     step: u8,
@@ -302,6 +305,7 @@ fn side_least(side: &Side, tally: &Option<Tally>, values: &[i32]) -> u64
 }
 
 /// The best so far, with the choices of the three books.
+#[inline(always)]
 fn with_codebooks(
     state: &ChannelState,
     step: u8,
@@ -338,6 +342,7 @@ fn with_codebooks(
 }
 
 /// The best so far, with the choices of the filters on trial.
+#[inline(always)]
 pub(crate) fn with_books(
     state: &ChannelState,
     step: u8,
