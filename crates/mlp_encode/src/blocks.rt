@@ -1,5 +1,5 @@
 //! What is sent of a substream in a unit: its blocks, as a segment.
-ghost use Rattle.std.specs.Prelude.{◌≡◌, ◌≤◌, ◌<◌, ◌+◌, ◌-◌, ◌++◌, ◌∷◌, [], ℕ, List, All, length, take, drop, map, nat_lt, is_some, is_none, IsTrue, false, true, Some, None, slice_index_or};
+ghost use Rattle.std.specs.Prelude.{◌≡◌, ◌≤◌, ◌<◌, ◌+◌, ◌-◌, ◌++◌, ◌∷◌, [], ℕ, List, All, length, take, drop, map, replicate, nat_lt, is_some, is_none, IsTrue, false, true, Some, None, slice_index_or};
 ghost use Rattle.std.specs.List.{list_any, range_with_len};
 ghost use Rattle.arrayvec.specs.ArrayVec.{array_vec_len};
 ghost use Rattle.mlp_arith.specs.Words.{clear};
@@ -37,12 +37,11 @@ fn has_step(steps: &[u8]) -> bool
 fn rows_with(profile: &Profile, substream: u8, restarts: bool) -> Option<ArrayVec<MatrixRow, 8>>
     ensures { result ≡ rows_with substream profile.now restarts }
 {
-    let rows = rows(profile.mix, substream, profile.channels);
-    if restarts && rows.len() != 0 {
-        Some(rows)
-    } else {
-        None
+    if !restarts {
+        return None;
     }
+    let rows = rows(profile.mix, substream, profile.channels);
+    if rows.len() != 0 { Some(rows) } else { None }
 }
 
 /// The steps that come with a restart, where one isn't 0.
@@ -50,12 +49,11 @@ fn steps_with(profile: &Profile, substream: u8, restarts: bool) -> Option<ArrayV
     requires { profile.now.depth ≤ 24 }
     ensures { result ≡ steps_with substream profile.now restarts }
 {
-    let steps = steps(profile.mix, profile.depth, substream);
-    if restarts && has_step(&steps) {
-        Some(steps)
-    } else {
-        None
+    if !restarts {
+        return None;
     }
+    let steps = steps(profile.mix, profile.depth, substream);
+    if has_step(&steps) { Some(steps) } else { None }
 }
 
 /// The block size, where it isn't the one in force.
@@ -170,6 +168,36 @@ fn push_frames(count: usize, codes: &mut ArrayVec<FrameCode, 160>)
     }
 }
 
+/// Takes the codes of a frame away.
+fn empty_frame(frame: &mut FrameCode)
+    ensures { frame.new ≡ record { bypass = 0; codes = record { items = [] } } }
+{
+    frame.bypass = 0;
+    frame.codes.clear();
+}
+
+/// Takes the codes of all frames away.
+fn empty_frames(frames: &mut [FrameCode])
+    ensures { frames.new ≡ replicate (length frames.old) (record { bypass = 0; codes = record { items = [] } }) }
+{
+    for i in 0..frames.len() {
+        empty_frame(&mut frames[i]);
+    }
+}
+
+/// Puts so many frames without codes in the place of all that are there.
+pub(crate) fn renew_frames(count: usize, codes: &mut ArrayVec<FrameCode, 160>)
+    requires { count ≤ 160 }
+    ensures { (frames : List CodedFrame) → length frames ≡ count → codes.new.items ≡ codes_in [] [] frames }
+{
+    if codes.len() == count {
+        empty_frames(codes.as_mut_slice());
+        return;
+    }
+    codes.clear();
+    push_frames(count, codes);
+}
+
 /// Whether a row takes a bypassed bit.
 fn has_bypass(rows: &[MatrixRow]) -> bool
     ensures { result ≡ list_any (λ row. row.bypass) rows.now }
@@ -263,7 +291,7 @@ fn put_params(restarts: bool, written: Params, state: &mut State) -> Option<Para
 }
 
 /// What is sent of a block but for its restart. The parameters are put in force.
-fn send_given(
+pub(crate) fn send_given(
     profile: &Profile,
     substream: u8,
     restarts: bool,

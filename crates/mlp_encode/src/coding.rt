@@ -53,35 +53,59 @@ fn push_code(code: Code, frame: &mut FrameCode)
     frame.codes.push(code);
 }
 
-/// Puts the code of a residual behind those of a frame.
-fn push_residual(choice: &Choice, step: u8, residual: &i32, frame: &mut FrameCode)
-    requires book { choice.now.book ≤ 3 }
+/// Puts the code of a residual in a book behind those of a frame.
+#[inline]
+fn push_residual(book: u8, choice: &Choice, step: u8, residual: &i32, frame: &mut FrameCode)
+    requires book { book ≤ 3 }
     requires low { choice.now.low < 32 }
     requires step { step < 16 }
     requires room { array_vec_len frame.old.codes < 8 }
     ensures { let b = choice.now.low - step in
-        frame.new ≡ with_code (code_by choice.now.book b choice.now.offset step residual.now) frame.old }
+        frame.new ≡ with_code (code_by book b choice.now.offset step residual.now) frame.old }
 {
     let b = choice.low.saturating_sub(step);
-    push_code(
-        code_by(choice.book, b, choice.offset, step, *residual),
-        frame,
-    );
+    push_code(code_by(book, b, choice.offset, step, *residual), frame);
 }
 
-/// Puts the codes of residuals behind those of the frames.
-fn push_codes(choice: &Choice, step: u8, residuals: &[i32], frames: &mut [FrameCode])
-    requires book { choice.now.book ≤ 3 }
+/// Puts the codes of residuals in a book behind those of the frames.
+#[inline(always)]
+fn push_residuals(book: u8, choice: &Choice, step: u8, residuals: &[i32], frames: &mut [FrameCode])
+    requires book { book ≤ 3 }
     requires low { choice.now.low < 32 }
     requires step { step < 16 }
     requires count { length residuals.now ≡ length frames.old }
     requires room { All (λ f. array_vec_len f.codes < 8) frames.old }
     ensures { let b = choice.now.low - step in
-        frames.new ≡ with_codes (map (code_by choice.now.book b choice.now.offset step) residuals.now) frames.old }
+        frames.new ≡ with_codes (map (code_by book b choice.now.offset step) residuals.now) frames.old }
 {
     for i in 0..frames.len() {
-        push_residual(choice, step, &residuals[i], &mut frames[i]);
+        push_residual(book, choice, step, &residuals[i], &mut frames[i]);
     }
+}
+
+/// The same, with a loop of its own for each book that has symbols.
+fn push_codes(book: u8, choice: &Choice, step: u8, residuals: &[i32], frames: &mut [FrameCode])
+    requires book { book ≤ 3 }
+    requires low { choice.now.low < 32 }
+    requires step { step < 16 }
+    requires count { length residuals.now ≡ length frames.old }
+    requires room { All (λ f. array_vec_len f.codes < 8) frames.old }
+    ensures { let b = choice.now.low - step in
+        frames.new ≡ with_codes (map (code_by book b choice.now.offset step) residuals.now) frames.old }
+{
+    if book == 1 {
+        push_residuals(1, choice, step, residuals, frames);
+        return;
+    }
+    if book == 2 {
+        push_residuals(2, choice, step, residuals, frames);
+        return;
+    }
+    if book == 3 {
+        push_residuals(3, choice, step, residuals, frames);
+        return;
+    }
+    push_residuals(book, choice, step, residuals, frames);
 }
 
 /// What is sent of a channel in a block: its parameters, and its codes, which are put behind those of the frames.
@@ -113,6 +137,6 @@ pub(crate) fn send_channel(
     let residuals = &mut line[..samples.len()];
     let choice = choose(force, past, step, filters, samples);
     reduced(force, past, step, &choice, samples, residuals);
-    push_codes(&choice, step, residuals, frames);
+    push_codes(choice.book, &choice, step, residuals, frames);
     given(force, step, &choice, samples)
 }

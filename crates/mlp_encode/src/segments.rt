@@ -1,5 +1,5 @@
 //! The segment of a substream in a unit.
-ghost use Rattle.std.specs.Prelude.{◌≡◌, ◌≤◌, ◌<◌, ◌++◌, ◌+◌, [], Some, None, is_some, true, false, map, take, drop, length, IfSome};
+ghost use Rattle.std.specs.Prelude.{◌≡◌, ◌≤◌, ◌<◌, ◌++◌, ◌∷◌, ◌+◌, [], Some, None, is_some, true, false, map, take, drop, length, IfSome};
 ghost use Rattle.std.specs.Option.{IsSomeAnd};
 ghost use Rattle.mlp_layout.specs.Allowed.{Allowed};
 ghost use Rattle.mlp_params.specs.RestartHeader.{restart as restart_layout};
@@ -10,12 +10,13 @@ ghost use Rattle.mlp_encode.specs.Numbers.{coded_channels};
 ghost use Rattle.mlp_encode.specs.Blocks.{Force, restart_sent, later_sent, segment_sent, empty};
 ghost use Rattle.mlp_encode.specs.Lawful.{SendsSegment, IsInForce, IsRestartOf, IsSentSegment};
 
-use crate::blocks::send_block;
+use crate::blocks::{renew_frames, send_block, send_given};
 use crate::numbers::FIRST_FRAMES;
+use arrayvec::ArrayVec;
 use mlp_fold::{CodedFrame, Profile, first_channel, last_channel};
 use mlp_params::State;
 use mlp_predict::Predictor;
-use mlp_syntax::{Restart, Segment};
+use mlp_syntax::{BlockHead, Restart, Segment};
 
 /// The pasts of a substream's channels become zeros.
 fn reset_pasts(substream: u8, pasts: &mut [Predictor<8, 4>; 8])
@@ -80,7 +81,27 @@ fn send_restarted(
     send_block(profile, substream, None, later, state, pasts, segment);
 }
 
-/// A segment against what is in force.
+/// Puts a head in the place of the only one.
+fn replace_head(head: BlockHead, heads: &mut [BlockHead])
+    requires { length heads.old ≡ 1 }
+    ensures { heads.new ≡ head ∷ [] }
+{
+    heads[0] = head;
+}
+
+/// Puts a head in the place of all that are there.
+fn replace_heads(head: BlockHead, heads: &mut ArrayVec<BlockHead, 20>)
+    ensures { heads.new.items ≡ head ∷ [] }
+{
+    if heads.len() == 1 {
+        replace_head(head, heads.as_mut_slice());
+        return;
+    }
+    heads.clear();
+    heads.push(head);
+}
+
+/// A segment against what is in force. Its one block takes the place of those that are there.
 fn send_later(
     profile: &Profile,
     substream: u8,
@@ -91,7 +112,8 @@ fn send_later(
 )
     requires sends { SendsSegment profile.now substream None state.old frames.now }
     requires most { length frames.now ≤ 160 }
-    requires empty { segment.old ≡ empty segment.old.terminator }
+    requires padding { segment.old.padding ≡ 0 }
+    requires checked { segment.old.checked ≡ true }
     ensures { IfSome state.old (λ s. let before : Force = record { state = s; pasts = pasts.old } in
         let sent = later_sent substream profile.now before frames.now segment.old.terminator in
         IsSentSegment sent segment.new state.new pasts.new) }
@@ -99,7 +121,22 @@ fn send_later(
     let Some(state) = state else {
         return;
     };
-    send_block(profile, substream, None, frames, state, pasts, segment);
+    renew_frames(frames.len(), &mut segment.codes);
+    let params = send_given(
+        profile,
+        substream,
+        false,
+        frames,
+        state,
+        pasts,
+        segment.codes.as_mut_slice(),
+    );
+    let head = BlockHead {
+        restart: None,
+        params,
+        frames: frames.len() as u16,
+    };
+    replace_heads(head, &mut segment.blocks);
 }
 
 /// Puts what is sent of a substream in a unit into `segment`. Behind it `state` is in force, and `pasts` are the latest
@@ -118,13 +155,15 @@ pub fn send_segment(
     ensures { let sent = segment_sent substream profile.now restart state.old pasts.old frames.now terminator in
         IsSomeAnd sent (λ s. IsSentSegment s segment.new state.new pasts.new) }
 {
-    segment.blocks.clear();
-    segment.codes.clear();
     segment.padding = 0;
     segment.terminator = terminator;
     segment.checked = true;
     match restart {
-        Some(restart) => send_restarted(profile, substream, restart, frames, state, pasts, segment),
+        Some(restart) => {
+            segment.blocks.clear();
+            segment.codes.clear();
+            send_restarted(profile, substream, restart, frames, state, pasts, segment)
+        }
         None => send_later(profile, substream, frames, state, pasts, segment),
     }
 }
