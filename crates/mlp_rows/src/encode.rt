@@ -1,11 +1,13 @@
 //! The commands that encode.
 use crate::decode_wav::SILENCE;
 use crate::runs::{Edge, WHOLE, run_over};
-use crate::streams::{ENDED, RAMPS, ramp_samples};
+use crate::streams::{ENDED, RAMPS, ramp_samples, repeated};
 use std::alloc::{AllocError, Global};
 use std::test::Fail;
 
 const WORDS: &str = "encode-raw --format truehd --rate 48000 --channels 2 --bits 24";
+
+const TWENTY: &str = "encode-raw --format truehd --rate 192000 --channels 2 --bits 20";
 
 /// One silent unit, which isn't the last.
 const GOING_ON: [u8; 60] = [
@@ -35,18 +37,76 @@ fn encodes_pcm_in_any_pieces(rt: HostRuntime) -> Result<(), Fail> {
     Ok(())
 }
 
+/// A frame of six channels at one end of the range, and two channels that its mix has.
+const LEAST: [u8; 18] =
+    *b"\x00\x00\x80\x00\x00\x80\x00\x00\x80\x00\x00\x80\x00\x00\x80\x00\x00\x80";
+
+const LEAST_MIXED: [u8; 6] = [0xAF, 0x02, 0x80, 0xAF, 0x02, 0x80];
+
+/// The same at the other end.
+const MOST: [u8; 18] = *b"\xFF\xFF\x7F\xFF\xFF\x7F\xFF\xFF\x7F\xFF\xFF\x7F\xFF\xFF\x7F\xFF\xFF\x7F";
+
+const MOST_MIXED: [u8; 6] = [0x4F, 0xFD, 0x7F, 0x4F, 0xFD, 0x7F];
+
+/// Two channels that go from one end of the range to the other and back, against each other and together.
+const AGAINST: [u8; 12] = *b"\x00\x00\x80\xFF\xFF\x7F\xFF\xFF\x7F\x00\x00\x80";
+
+const TOGETHER: [u8; 12] = *b"\x00\x00\x80\x00\x00\x80\xFF\xFF\x7F\xFF\xFF\x7F";
+
+/// Two samples of 20 bits.
+const FEW: [u8; 6] = [0x10, 0x00, 0x00, 0xF0, 0xFF, 0xFF];
+
+/// Each with bytes of PCM, what is shown of them, and how often these come. No mix wraps.
+#[test]
+fn encodes_what_decodes_to_the_pcm(rt: HostRuntime) -> Result<(), Fail> {
+    let alloc = rt.alloc();
+    let side = "encode-raw --format truehd --rate 48000 --channels 2 --bits 24 --mix side";
+    let fold = "encode-raw --format truehd --rate 48000 --channels 6 --bits 24 --mix fold";
+    let lower = "decode-raw --presentation 0";
+    let upper = "decode-raw --presentation 1";
+    let cases: [(&str, &str, &[u8], &[u8], usize); 7] = [
+        (TWENTY, lower, &FEW, &FEW, 1),
+        (side, lower, &AGAINST, &AGAINST, 40),
+        (WORDS, lower, &TOGETHER, &TOGETHER, 40),
+        (fold, upper, &LEAST, &LEAST, 40),
+        (fold, upper, &MOST, &MOST, 40),
+        (fold, lower, &LEAST, &LEAST_MIXED, 40),
+        (fold, lower, &MOST, &MOST_MIXED, 40),
+    ];
+    for (encode, decode, pcm, shown, times) in cases {
+        let pcm = repeated(alloc, pcm, times)?;
+        let stream = run_over(alloc, encode, &pcm, &WHOLE)?;
+        assert_eq!(rt; stream.status, 0, "of {encode}");
+        let seen = run_over(alloc, decode, &stream.output, &WHOLE)?;
+        assert_eq!(rt; seen.status, 0, "of {encode}");
+        assert_eq!(rt; seen.output, repeated(alloc, shown, times)?, "of {encode}");
+    }
+    Ok(())
+}
+
+/// Of 160 frames of the one unit at the highest rate all but one are dropped at the end.
+#[test]
+fn tells_how_many_frames_are_dropped(rt: HostRuntime) -> Result<(), Fail> {
+    let seen = run_over(rt.alloc(), TWENTY, &FEW, &WHOLE)?;
+    assert_eq!(rt; seen.output.len(), 70);
+    assert_eq!(rt;
+        seen.output.get(64..68),
+        Some([0xD2, 0x34, 0x20, 0x9F].as_slice())
+    );
+    Ok(())
+}
+
 /// Each with the line, and how much is written of the one silent unit.
 #[test]
 fn refuses_pcm_by_name(rt: HostRuntime) -> Result<(), Fail> {
     let silence = [0; 241];
     let low = [0x11, 0, 0, 0, 0, 0];
-    let twenty = "encode-raw --format truehd --rate 192000 --channels 2 --bits 20";
     let mlp = "encode-raw --format mlp --rate 48000 --channels 2 --bits 24";
     let cases: [(&str, &[u8], &str, usize); 5] = [
         (WORDS, &[], "pcm refused: Empty\n", 0),
         (WORDS, &silence[..7], "pcm refused: PartialFrame\n", 0),
         (mlp, &silence[..6], "pcm refused: PartialUnit\n", 0),
-        (twenty, &low, "pcm refused: PadBits 0\n", 0),
+        (TWENTY, &low, "pcm refused: PadBits 0\n", 0),
         (WORDS, &silence, "pcm refused: PartialFrame\n", 60),
     ];
     for (words, pcm, line, written) in cases {

@@ -18,6 +18,8 @@ mod extract;
 #[cfg(test)]
 mod faults;
 #[cfg(test)]
+mod generated;
+#[cfg(test)]
 mod list;
 #[cfg(test)]
 mod memory;

@@ -82,6 +82,13 @@ fn put_repeated(out: &mut Vec<u8>, bytes: &[u8], times: usize) -> Result<(), All
     Ok(())
 }
 
+/// Bytes so often, and no others.
+pub fn repeated(alloc: Global, bytes: &[u8], times: usize) -> Result<Vec<u8>, AllocError> {
+    let mut out = Vec::new(alloc);
+    put_repeated(&mut out, bytes, times)?;
+    Ok(out)
+}
+
 /// Raw stereo TrueHD at 48 kHz: one access unit, whose frames are all 1 and -1.
 pub fn raw_unit(alloc: Global) -> Result<Vec<u8>, AllocError> {
     let mut unit = FIRST.to_vec(alloc)?;
@@ -103,9 +110,7 @@ pub fn raw_units(alloc: Global, silent: usize) -> Result<Vec<u8>, AllocError> {
 
 /// The samples of the first unit.
 pub fn raw_samples(alloc: Global) -> Result<Vec<u8>, AllocError> {
-    let mut samples = Vec::new(alloc);
-    put_repeated(&mut samples, &[0x01, 0x00, 0x00, 0xFF, 0xFF, 0xFF], 40)?;
-    Ok(samples)
+    repeated(alloc, &[0x01, 0x00, 0x00, 0xFF, 0xFF, 0xFF], 40)
 }
 
 fn put_sample(out: &mut Vec<u8>, sample: i32) -> Result<(), AllocError> {
