@@ -52,3 +52,17 @@ fn a_unit_before_its_turn_has_no_timing(rt: HostRuntime) -> Result<(), Memory> {
     assert!(rt; !checker.unit(80, Some(3640), 10));
     Ok(())
 }
+
+/// 1000 bytes take 22 sample periods at 48 kHz, and 4000 bytes 171 at 96 kHz.
+#[test]
+fn a_unit_has_arrived_when_it_is_output(rt: HostRuntime) -> Result<(), Memory> {
+    let mut checker = Checker::open(rt.alloc(), Kind::Fba, 48000)?;
+    assert!(rt; checker.unit(3578, Some(3600), 1000));
+    checker.reset(Kind::Fba, 48000);
+    assert!(rt; !checker.unit(3579, Some(3600), 1000));
+    checker.reset(Kind::Fba, 96000);
+    assert!(rt; checker.unit(7029, Some(7200), 4000));
+    checker.reset(Kind::Fba, 96000);
+    assert!(rt; !checker.unit(7030, Some(7200), 4000));
+    Ok(())
+}

@@ -35,7 +35,7 @@ fn decoded(mix: Mix, depth: u8, channels: u8, k: u8, frame: &[i32; 8]) -> [i32; 
     out
 }
 
-/// Six channels, also at a lesser depth, where the value above those bits counts, and the loudest ones, which don't wrap.
+/// Six channels, also at lesser depths, where the value above those bits counts, and the loudest ones, which don't wrap.
 #[test]
 fn folds_six_channels(rt: HostRuntime) {
     let frame = [1000, 0, 1000, 0, 0, 0, 0, 0];
@@ -46,6 +46,12 @@ fn folds_six_channels(rt: HostRuntime) {
     assert_eq!(rt; it, [707, 293, 0, 0, 0, 0, 0, 0]);
     let it = decoded(Mix::Fold, 24, 6, 0, &frame);
     assert_eq!(rt; it, [707, 293, -5, -5, -5, -5, -5, -5, -5, -5]);
+    let it = presented(Mix::Fold, 24, 6, 1, &frame);
+    assert_eq!(rt; it, frame);
+
+    let frame = [16000, 0, 16000, 0, 0, 0, 0, 0];
+    let it = presented(Mix::Fold, 20, 6, 0, &frame);
+    assert_eq!(rt; it, [11312, 4688, 0, 0, 0, 0, 0, 0]);
 
     let frame = [256000, 0, 256000, 0, 0, 0, 0, 0];
     let it = presented(Mix::Fold, 16, 6, 0, &frame);
@@ -69,6 +75,14 @@ fn folds_eight_channels(rt: HostRuntime) {
     assert_eq!(rt; it, [1000, -1000, 300, 40, 285, -341, -5, -5, -5, -5]);
     let it = decoded(Mix::Fold, 24, 8, 2, &frame);
     assert_eq!(rt; it, [1000, -1000, 300, 40, 500, -600, 70, -81, -5, -5]);
+
+    let frame = [0, 0, 0, 0, 100, 0, 50, 0];
+    let it = coded(Mix::Fold, 24, 8, &frame);
+    assert_eq!(rt; it.values, [54, 0, 0, 0, 150, 0, 50, 0]);
+    let it = presented(Mix::Fold, 24, 8, 0, &frame);
+    assert_eq!(rt; it, [22, 0, 0, 0, 0, 0, 0, 0]);
+    let it = presented(Mix::Fold, 24, 8, 1, &frame);
+    assert_eq!(rt; it, [0, 0, 0, 0, 75, 0, 0, 0]);
 }
 
 #[test]

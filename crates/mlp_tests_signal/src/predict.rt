@@ -53,6 +53,8 @@ fn predicts_from_outputs(rt: HostRuntime) {
     let eighths: Filter<8> = filter(&[7], 3, 0);
     let mut below = channel(-72, 0);
     assert_eq!(rt; channel(-1, 0).predict(&eighths, &none()), -1);
+    assert_eq!(rt; channel(-1, 0).restore(&eighths, &none(), 0, 0), -1);
+    assert_eq!(rt; below.predict(&eighths, &none()), -63);
     assert_eq!(rt; below.copied().reduce(&eighths, &none(), 3, -56), Some(8));
     assert_eq!(rt; below.restore(&eighths, &none(), 3, 8), -56);
     assert_eq!(rt; below.differences()[0], 7);
