@@ -1,7 +1,7 @@
 //! The commands that encode.
 use crate::decode_wav::SILENCE;
 use crate::runs::{Edge, WHOLE, run_over};
-use crate::streams::{ENDED, RAMPS, ramp_samples, repeated};
+use crate::streams::{ENDED, RAMPS, next_state, ramp_samples, repeated};
 use std::alloc::{AllocError, Global};
 use std::test::Fail;
 
@@ -183,7 +183,7 @@ fn noise(alloc: Global, samples: usize) -> Result<Vec<u8>, AllocError> {
     let mut pcm = Vec::new(alloc);
     let mut state: u32 = 1;
     for _ in 0..samples {
-        state = state.wrapping_mul(1_664_525).wrapping_add(1_013_904_223);
+        state = next_state(state);
         let bytes = ((state >> 8) ^ 0x80_0000).to_le_bytes();
         pcm.extend_from_slice(&bytes[..3])?;
     }

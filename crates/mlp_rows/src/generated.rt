@@ -1,5 +1,6 @@
 //! The command `gen`.
 use crate::runs::{WHOLE, run_over};
+use crate::streams::next_state;
 use std::alloc::{AllocError, Global};
 use std::test::Fail;
 
@@ -16,7 +17,7 @@ fn pcm_of(alloc: Global, seed: u32, frames: u32) -> Result<Vec<u8>, AllocError> 
     let mut pcm = Vec::new(alloc);
     let mut state = seed;
     for place in 0..frames.wrapping_mul(6) {
-        state = state.wrapping_mul(1_664_525).wrapping_add(1_013_904_223);
+        state = next_state(state);
         let bytes = sample(state, place / 6, place % 6).to_le_bytes();
         pcm.extend_from_slice(&bytes[..3])?;
     }

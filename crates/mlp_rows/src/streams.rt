@@ -74,6 +74,11 @@ pub const RAMPS: [u8; 362] = [
     0x40, 0x30, 0xB8, 0x01, 0xD2, 0x34, 0x20, 0x00, 0x82, 0xE1,
 ];
 
+/// A step of a generator of numbers of 32 bits.
+pub fn next_state(state: u32) -> u32 {
+    state.wrapping_mul(1_664_525).wrapping_add(1_013_904_223)
+}
+
 /// Bytes so often.
 fn put_repeated(out: &mut Vec<u8>, bytes: &[u8], times: usize) -> Result<(), AllocError> {
     for _ in 0..times {
