@@ -4,3 +4,4 @@ pub mod Taking
 pub mod Playing
 pub mod Underway
 pub mod Ends
+pub mod OneText

@@ -21,7 +21,7 @@ use Rattle.mlp_encode.specs.Unit.{AreNext, unit_sent, behind, next_sent, joined}
 use Rattle.mlp_encode.specs.Sent.{sent}
 use Rattle.mlp_present.specs.Decoding.{after_units}
 use Rattle.mlp_encode.proofs.SyncAllowed.{passes}
-use Rattle.mlp_lossless.specs.Streams.{all_frames, IsSent}
+use Rattle.mlp_lossless.specs.Streams.{all_frames}
 use Rattle.mlp_lossless.specs.Following.{Follows}
 use Rattle.mlp_lossless.specs.Next.{HasSent, IsFollowed}
 use Rattle.mlp_lossless.proofs.Shapes.{presentation}
@@ -32,7 +32,7 @@ use Rattle.mlp_lossless.proofs.Next.{sent_last, sent_refused, kept_sent, each_fo
 use Rattle.mlp_gen.specs.Generator.{unit_at, generated}
 use Rattle.mlp_gen.specs.Player.{Played, unplayed, shown_by, player_at, CanTake, Took}
 use Rattle.mlp_gen.specs.Generated.{nothing_shown, IsShown, IsMade, HasNoPlace}
-use Rattle.mlp_gen.proofs.UnitFrames.{unit_is, are_units, frames_more, joined_more, generated_more, rest_of}
+use Rattle.mlp_gen.proofs.UnitFrames.{unit_is, is_sent, frames_more, joined_more, generated_more, rest_of}
 use Rattle.mlp_gen.proofs.Playing.{IsPlayedTo, can_take, played_on, follows_on}
 
 abbrev pub FollowAll : Profile → Going → List Played → Type 0
@@ -197,13 +197,10 @@ module _ (p : Profile) (seed count number : ℕ) (units : List (List ℕ)) (e : 
 -- ---- all of them
 
 module _ (p : Profile) (seed count : ℕ) (units : List (List ℕ)) (players : List Played) (is : checked p ≡ Ok tt) (some : 1 ≤ count) (h : IsWhole p seed count units players) where
-  is_sent : IsSent p (generated p seed count) units h.left
-  is_sent = record { profile = is; some = omega (arith, some, length-map-range_with_len (unit_at p seed) 0 count); frames_are = are_units p seed 0 count is; sent_is = h.sent_is }
-
   shown : (k : ℕ) → k < substreams_of p.channels → IsShown p k (all_frames (generated p seed count)) (joined units) (shown_by (player_at players k))
   shown k there =
       let x = h.played k there in
-      let g = all_given_back p (generated p seed count) units h.left k is_sent there in
+      let g = all_given_back p (generated p seed count) units h.left k (is_sent p seed count units h.left is some h.sent_is) there in
       let same : g.units ≡ x.us = (has_one_end (whole k) (whole_is k) (start k) (bits_of (joined units))).one_list g.units x.us g.stream.units (record { begins = x.begins; some = g.stream.units.some }) in
       record {
         units = x.us;

@@ -1,5 +1,5 @@
 -- The units of the generator can be sent.
-use Rattle.std.proofs.Common.{◌≡◌, ℕ, zero, suc, ◌+◌, ◌*◌, ◌<◌, List, [], ◌∷◌, ◌++◌, map, length, get_or, ℤ, Bool, true, false, Ok, sym, ap, ◌∙◌, arith, append_assoc, suc-mul}
+use Rattle.std.proofs.Common.{◌≡◌, ℕ, zero, suc, ◌+◌, ◌*◌, ◌<◌, ◌≤◌, List, [], ◌∷◌, ◌++◌, map, length, get_or, ℤ, Bool, true, false, Ok, sym, ap, ◌∙◌, arith, append_assoc, suc-mul}
 use Rattle.std.specs.Prelude.{nat_le, ◌==◌, if◌then◌else◌}
 use Rattle.std.specs.List.{range_with_len}
 use Rattle.std.proofs.lemmas.List.{append-nil, length-append, map-append}
@@ -10,9 +10,11 @@ use Rattle.mlp_fold.specs.declared.profile.Profile.{Profile}
 use Rattle.mlp_fold.specs.Profile.{checked}
 use Rattle.mlp_fold.specs.Mix.{AreSamples}
 use Rattle.mlp_encode.specs.Numbers.{low_zeros}
+use Rattle.mlp_encode.specs.Left.{Left, going}
 use Rattle.mlp_encode.specs.Unit.{AreNext, joined}
+use Rattle.mlp_encode.specs.Sent.{sent}
 use Rattle.mlp_encode.proofs.SyncAllowed.{passes}
-use Rattle.mlp_lossless.specs.Streams.{all_frames, AreUnits}
+use Rattle.mlp_lossless.specs.Streams.{all_frames, AreUnits, IsSent}
 use Rattle.mlp_lossless.proofs.Shapes.{mixed}
 use Rattle.mlp_gen.specs.Generator.{state_after, frame_at, unit_at, generated}
 use Rattle.mlp_gen.proofs.Samples.{frame_samples}
@@ -44,9 +46,13 @@ unit_is p seed n last is =
 
 -- ---- all of them
 
-pub are_units : (p : Profile) (seed a n : ℕ) → checked p ≡ Ok tt → AreUnits p (map (unit_at p seed) (range_with_len a n))
+are_units : (p : Profile) (seed a n : ℕ) → checked p ≡ Ok tt → AreUnits p (map (unit_at p seed) (range_with_len a n))
 are_units p seed a zero is = tt
 are_units p seed a (suc n) is = (unit_is p seed a (length (map (unit_at p seed) (range_with_len (a + 1) n)) == 0) is, are_units p seed (a + 1) n is)
+
+pub is_sent : (p : Profile) (seed count : ℕ) (units : List (List ℕ)) (left : Left) → checked p ≡ Ok tt → 1 ≤ count → sent true (Ok (going p)) (generated p seed count) ≡ record { units = units; end = Ok left }
+    → IsSent p (generated p seed count) units left
+is_sent p seed count units left is some sent_is = record { profile = is; some = omega (arith, some, length-map-range_with_len (unit_at p seed) 0 count); frames_are = are_units p seed 0 count is; sent_is = sent_is }
 
 pub frames_more : (units : List (List (List ℤ))) (frames : List (List ℤ)) → all_frames (units ++ frames ∷ []) ≡ all_frames units ++ frames
 frames_more [] frames = append-nil frames

@@ -1,5 +1,5 @@
 -- What `gen` makes of a profile, a seed and a number of units.
-use Rattle.std.specs.Prelude.{◌≡◌, ◌<◌, ℕ, ◌*◌, ◌==◌, ◌⊎◌, true, List, length, map, take, slice_index_or, Result, Ok, Err, if◌then◌else◌, ℤ}
+use Rattle.std.specs.Prelude.{◌≡◌, ◌≢◌, ◌<◌, ℕ, ◌*◌, ◌==◌, ◌⊎◌, true, List, length, map, take, slice_index_or, Some, Result, Ok, Err, if◌then◌else◌, ℤ}
 use Rattle.std.specs.Io.KnownBytes.{Appends}
 use Rattle.mlp_bits.specs.Bits.{bits_of}
 use Rattle.mlp_layout.specs.Streams.{Stream}
@@ -49,6 +49,7 @@ pub record IsShown (p : Profile) (k : ℕ) (pcm : List (List ℤ)) (bytes : List
 
 -- the bytes that are sent of the PCM, what each presentation of them shows, and what is extracted for each
 pub record IsReport (p : Profile) (seed count : ℕ) (r : Report) : Type 0 where
+  pub profile : checked p ≡ Ok tt
   pub units : List (List ℕ)
   pub left : Left
   pub sent_is : sent true (Ok (going p)) (generated p seed count) ≡ record { units = units; end = Ok left }
@@ -104,6 +105,22 @@ Generates p seed count output (Err (Stopped ReadFault)) = ⊥
 Generates p seed count output (Err (Stopped WriteFault)) =
     (text : List ℕ) × IsText p seed count text × ((n : ℕ) × Appends output.before output.behind (take n text))
 Generates p seed count output (Err (Stopped TooLong)) = ⊥
+
+-- the end of a run that had memory and whose writes didn't fail
+abbrev pub IsAnswer : Result Unit Failure → Type 0
+IsAnswer end = (end ≢ Err OutOfMemory) × (end ≢ Err (Stopped WriteFault))
+
+-- an output that tells its bytes
+abbrev pub told : List ℕ → List ℕ → Side
+told before behind = record { before = Some before; behind = Some behind }
+
+-- such runs have an end and an output, and no other
+pub record HasOneText (p : Profile) (seed count : ℕ) (before : List ℕ) : Type 0 where
+  pub some : (end : Result Unit Failure) × (behind : List ℕ)
+      × IsAnswer end × Generates p seed count (told before behind) end
+  pub one : (d e : Result Unit Failure) (xs ys : List ℕ) → IsAnswer d → IsAnswer e
+      → Generates p seed count (told before xs) d → Generates p seed count (told before ys) e
+      → (d ≡ e) × (xs ≡ ys)
 
 -- why no encoder was opened, as a failure
 abbrev pub open_failure : OpenRefusal → Failure

@@ -2,6 +2,7 @@
 #![tactic(auto)]
 
 mod generator;
+pub mod laws;
 mod making;
 mod player;
 mod report;

@@ -22,6 +22,7 @@ returns c =
     let n = substreams_of p.channels in
     let count : length players ≡ n = c.send_units.auto.players ∙ ap (λ (xs : List Played). length xs) c.requires.players ∙ length-map-range_with_len unplayed 0 n in
     record {
+      profile = c.requires.profile;
       units = m.units;
       left = m.left;
       sent_is = m.sent_is;

@@ -6,6 +6,7 @@ use Rattle.mlp_cut.proofs.CutterLaws.{cutting_is}
 use Rattle.mlp_encoded.proofs.OneAnswer.{one_raw, one_wave}
 use Rattle.mlp_extract.specs.Extracting.{extracting}
 use Rattle.mlp_extract.proofs.ExtractFollows.{extracting_is}
+use Rattle.mlp_gen.proofs.OneText.{one_text}
 use Rattle.mlp_recover.proofs.Pieces.{one_recovery}
 use Rattle.mlp_recover.proofs.SomePieces.{some_recovery}
 use Rattle.mlp_retime.specs.Retiming.{retiming}
@@ -44,3 +45,6 @@ returns-clause-encode_raw c = one_raw
 
 pub returns-clause-encode_wav : goal.returns-clause-encode_wav
 returns-clause-encode_wav c = one_wave
+
+pub returns-clause-generate : goal.returns-clause-generate
+returns-clause-generate c = one_text
