@@ -29,7 +29,7 @@ use Rattle.mlp_gen.specs.declared.report.Report.{Report}
 use Rattle.mlp_gen.specs.Generator.{generated}
 use Rattle.mlp_gen.specs.Player.{sum_with}
 use Rattle.mlp_gen.specs.Report.{report_text}
-use Rattle.mlp_gen.specs.Generated.{width_of, nothing_shown, IsShown, IsReport, IsRefused, HasNoPlace, Generates, IsAnswer, told, HasOneText}
+use Rattle.mlp_gen.specs.Generated.{width_of, nothing_shown, IsShown, IsReport, IsRefused, Generates, IsAnswer, told, HasOneText}
 use Rattle.mlp_gen.proofs.UnitFrames.{is_sent}
 
 -- ---- no two reports
