@@ -270,6 +270,7 @@ fn best_of(
 /// The choice for a block of 1 to 160 samples: the first, by filter, book, low bits and offset, of those that cost least.
 /// The samples have 26 signed bits, the low `step` of which are 0, and the step is at most 8. Without `filters` only
 /// those in force are looked at, which then must be absent.
+#[inline(never)]
 pub fn choose(
     state: &ChannelState,
     history: &Predictor<8, 4>,
