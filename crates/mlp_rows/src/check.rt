@@ -1,5 +1,5 @@
 //! The command `check`.
-use crate::runs::{Edge, WHOLE, run_over};
+use crate::runs::{Edge, WHOLE, assert_run};
 use crate::streams::{EARLY, ENDED, RAMPS, SILENT};
 use std::test::Fail;
 
@@ -24,10 +24,14 @@ fn tells_what_streams_hold(rt: HostRuntime) -> Result<(), Fail> {
     for (stream, text) in cases {
         for piece in [7, 8190] {
             let edge = Edge { piece, ..WHOLE };
-            let seen = run_over(rt.alloc(), WORDS, stream, &edge)?;
-            assert_eq!(rt; seen.status, 0);
-            assert_eq!(rt; seen.output.as_slice(), text.as_bytes());
-            assert_eq!(rt; seen.line.len(), 0);
+            assert_run(
+                &rt,
+                rt.alloc(),
+                WORDS,
+                stream,
+                &edge,
+                (0, text.as_bytes(), ""),
+            )?;
         }
     }
     Ok(())

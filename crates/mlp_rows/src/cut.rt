@@ -1,5 +1,5 @@
 //! The command `cut`.
-use crate::runs::{Edge, WHOLE, run_over};
+use crate::runs::{Edge, WHOLE, assert_run};
 use crate::streams::SILENT;
 use std::test::Fail;
 
@@ -42,10 +42,14 @@ fn writes_units_byte_for_byte(rt: HostRuntime) -> Result<(), Fail> {
     for (words, start, end, status, line) in cases {
         for piece in [7, 8190] {
             let edge = Edge { piece, ..WHOLE };
-            let seen = run_over(rt.alloc(), words, &stream, &edge)?;
-            assert_eq!(rt; seen.status, status, "of {words}");
-            assert_eq!(rt; seen.output.as_slice(), &stream[start..end], "of {words}");
-            assert_eq!(rt; seen.line.as_slice(), line.as_bytes(), "of {words}");
+            assert_run(
+                &rt,
+                rt.alloc(),
+                words,
+                &stream,
+                &edge,
+                (status, &stream[start..end], line),
+            )?;
         }
     }
     Ok(())
@@ -58,31 +62,41 @@ fn refuses_what_breaks_a_rule_of_the_outer_parts(rt: HostRuntime) -> Result<(), 
         (
             "cut --first 2 --count 1",
             0,
+            0,
             "bad stream: unit 0, substream 0, UnitParity, bit 0\n",
         ),
         (
             "cut --first 1 --count 1",
             58,
+            0,
             "bad stream: unit 1, substream 0, UnitParity, bit 0\n",
         ),
         (
             "cut --first 0 --count 1",
             126,
+            58,
             "bad stream: unit 3, substream 0, UnitParity, bit 0\n",
         ),
     ];
-    for (words, place, line) in cases {
+    for (words, place, output, line) in cases {
         let mut stream = twice();
         stream[place] ^= 0x10;
-        let seen = run_over(rt.alloc(), words, &stream, &WHOLE)?;
-        assert_eq!(rt; seen.status, 1, "of {words}");
-        assert_eq!(rt; seen.line.as_slice(), line.as_bytes(), "of {words}");
+        assert_run(
+            &rt,
+            rt.alloc(),
+            words,
+            &stream,
+            &WHOLE,
+            (1, &stream[..output], line),
+        )?;
     }
-    let none = run_over(rt.alloc(), "cut --first 0 --count 0", &[], &WHOLE)?;
-    assert_eq!(rt; none.status, 1);
-    assert_eq!(rt;
-        none.line.as_slice(),
-        b"bad stream: unit 0, substream 0, UnitHeader, bit 0\n".as_slice()
-    );
-    Ok(())
+    let line = "bad stream: unit 0, substream 0, UnitHeader, bit 0\n";
+    assert_run(
+        &rt,
+        rt.alloc(),
+        "cut --first 0 --count 0",
+        &[],
+        &WHOLE,
+        (1, &[], line),
+    )
 }

@@ -1,5 +1,5 @@
 //! Streams with a changed bit or with their end cut off.
-use crate::runs::{Edge, WHOLE, run_over};
+use crate::runs::{Edge, WHOLE, assert_run};
 use crate::streams::{ENDED, RAMPS, ramp_samples};
 use std::test::Fail;
 
@@ -28,10 +28,14 @@ fn names_the_rule_that_each_changed_bit_breaks(rt: HostRuntime) -> Result<(), Fa
         let line = format!(in rt.alloc();
             "bad stream: unit 0, substream 0, {rule}, bit {place}\n"
         )?;
-        let seen = run_over(rt.alloc(), WORDS, &stream, &SMALL)?;
-        assert_eq!(rt; seen.status, 1, "at {bit}");
-        assert_eq!(rt; seen.output.len(), 0, "at {bit}");
-        assert_eq!(rt; seen.line.as_slice(), line.as_bytes(), "at {bit}");
+        assert_run(
+            &rt,
+            rt.alloc(),
+            WORDS,
+            &stream,
+            &SMALL,
+            (1, &[], line.as_str()),
+        )?;
     }
     Ok(())
 }
@@ -44,10 +48,14 @@ fn names_the_rule_that_each_missing_end_breaks(rt: HostRuntime) -> Result<(), Fa
         } else {
             "bad stream: unit 0, substream 0, UnitLength, bit 4\n"
         };
-        let seen = run_over(rt.alloc(), WORDS, &ENDED[..left], &SMALL)?;
-        assert_eq!(rt; seen.status, 1, "of {left}");
-        assert_eq!(rt; seen.output.len(), 0, "of {left}");
-        assert_eq!(rt; seen.line.as_slice(), line.as_bytes(), "of {left}");
+        assert_run(
+            &rt,
+            rt.alloc(),
+            WORDS,
+            &ENDED[..left],
+            &SMALL,
+            (1, &[], line),
+        )?;
     }
     Ok(())
 }
@@ -63,12 +71,6 @@ fn refuses_a_restart_that_disagrees_with_the_samples(rt: HostRuntime) -> Result<
     }
     let mut samples = ramp_samples(rt.alloc())?;
     samples.truncate(640 * 6);
-    let seen = run_over(rt.alloc(), WORDS, &stream, &WHOLE)?;
-    assert_eq!(rt; seen.status, 1);
-    assert_eq!(rt; seen.output, samples);
-    assert_eq!(rt;
-        seen.line.as_slice(),
-        b"bad stream: unit 16, substream 0, LosslessCheck, bit 363\n".as_slice()
-    );
-    Ok(())
+    let line = "bad stream: unit 16, substream 0, LosslessCheck, bit 363\n";
+    assert_run(&rt, rt.alloc(), WORDS, &stream, &WHOLE, (1, &samples, line))
 }

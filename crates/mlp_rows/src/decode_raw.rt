@@ -1,5 +1,5 @@
 //! The command `decode-raw` over stereo streams.
-use crate::runs::{Edge, WHOLE, run_over};
+use crate::runs::{Edge, WHOLE, assert_run, run_over};
 use crate::streams::{ENDED, RAMPS, SILENT, ramp_samples, raw_samples, raw_unit, raw_units};
 use std::test::Fail;
 
@@ -11,26 +11,32 @@ fn decodes_units_in_any_pieces(rt: HostRuntime) -> Result<(), Fail> {
     let mut samples = raw_samples(alloc)?;
     for piece in [1, 7, 8190] {
         let edge = Edge { piece, ..WHOLE };
-        let one = run_over(alloc, WORDS, &raw_unit(alloc)?, &edge)?;
-        assert_eq!(rt; one.status, 0);
-        assert_eq!(rt; one.output, raw_samples(alloc)?);
-        assert_eq!(rt; one.line.len(), 0);
+        assert_run(
+            &rt,
+            rt.alloc(),
+            WORDS,
+            &raw_unit(alloc)?,
+            &edge,
+            (0, &samples, ""),
+        )?;
     }
-    let two = run_over(alloc, WORDS, &raw_units(alloc, 1)?, &WHOLE)?;
     samples.resize(480, 0)?;
-    assert_eq!(rt; two.status, 0);
-    assert_eq!(rt; two.output, samples);
-    Ok(())
+    assert_run(
+        &rt,
+        rt.alloc(),
+        WORDS,
+        &raw_units(alloc, 1)?,
+        &WHOLE,
+        (0, &samples, ""),
+    )
 }
 
 #[test]
 fn decodes_predicted_samples_in_any_pieces(rt: HostRuntime) -> Result<(), Fail> {
-    let alloc = rt.alloc();
+    let samples = ramp_samples(rt.alloc())?;
     for piece in [1, 2, 7, 8190] {
         let edge = Edge { piece, ..WHOLE };
-        let seen = run_over(alloc, WORDS, &RAMPS, &edge)?;
-        assert_eq!(rt; seen.status, 0, "by {piece}");
-        assert_eq!(rt; seen.output, ramp_samples(alloc)?, "by {piece}");
+        assert_run(&rt, rt.alloc(), WORDS, &RAMPS, &edge, (0, &samples, ""))?;
     }
     Ok(())
 }
@@ -57,6 +63,7 @@ fn decodes_channels_in_either_order(rt: HostRuntime) -> Result<(), Fail> {
 /// A byte of the stream is changed, and some of its bytes are left.
 #[test]
 fn decodes_or_refuses_silence(rt: HostRuntime) -> Result<(), Fail> {
+    let silence = [0; 480];
     let cases = [
         (0, 0xD0, 58, 240, ""),
         (0, 0xD0, 68, 480, ""),
@@ -109,22 +116,15 @@ fn decodes_or_refuses_silence(rt: HostRuntime) -> Result<(), Fail> {
             *byte = other;
         }
         stream.truncate(left);
-        let seen = run_over(rt.alloc(), WORDS, &stream, &WHOLE)?;
-        assert_eq!(rt;
-            seen.status,
-            u8::from(!line.is_empty()),
-            "at {place} of {left}"
-        );
-        assert_eq!(rt;
-            seen.output,
-            vec![in rt.alloc(); 0; output]?,
-            "at {place} of {left}"
-        );
-        assert_eq!(rt;
-            seen.line.as_slice(),
-            line.as_bytes(),
-            "at {place} of {left}"
-        );
+        let status = u8::from(!line.is_empty());
+        assert_run(
+            &rt,
+            rt.alloc(),
+            WORDS,
+            &stream,
+            &WHOLE,
+            (status, &silence[..output], line),
+        )?;
     }
     Ok(())
 }
@@ -132,25 +132,15 @@ fn decodes_or_refuses_silence(rt: HostRuntime) -> Result<(), Fail> {
 /// A stream that ends, alone and twice; the word of its terminator that says how many frames are dropped.
 #[test]
 fn ends_behind_a_terminator(rt: HostRuntime) -> Result<(), Fail> {
-    let one = run_over(rt.alloc(), WORDS, &ENDED, &WHOLE)?;
-    assert_eq!(rt; one.status, 0);
-    assert_eq!(rt; one.output.as_slice(), [0; 6].as_slice());
+    assert_run(&rt, rt.alloc(), WORDS, &ENDED, &WHOLE, (0, &[0; 6], ""))?;
     let mut none = ENDED.to_vec(rt.alloc())?;
     none.truncate(61);
     none.extend_from_slice(&[0x29, 0xF6, 0x96])?;
-    let none = run_over(rt.alloc(), WORDS, &none, &WHOLE)?;
-    assert_eq!(rt; none.status, 0);
-    assert_eq!(rt; none.output.len(), 0);
+    assert_run(&rt, rt.alloc(), WORDS, &none, &WHOLE, (0, &[], ""))?;
     let mut twice = ENDED.to_vec(rt.alloc())?;
     twice.extend_from_slice(&ENDED)?;
-    let twice = run_over(rt.alloc(), WORDS, &twice, &WHOLE)?;
-    assert_eq!(rt; twice.status, 1);
-    assert_eq!(rt; twice.output.as_slice(), [0; 6].as_slice());
-    assert_eq!(rt;
-        twice.line.as_slice(),
-        b"bad stream: unit 1, substream 0, AfterEnd, bit 0\n".as_slice()
-    );
-    Ok(())
+    let line = "bad stream: unit 1, substream 0, AfterEnd, bit 0\n";
+    assert_run(&rt, rt.alloc(), WORDS, &twice, &WHOLE, (1, &[0; 6], line))
 }
 
 #[test]
@@ -173,21 +163,13 @@ fn asks_for_presentations_and_bits(rt: HostRuntime) -> Result<(), Fail> {
         ("decode-raw --presentation 0 --bits 20", 2, 0, "usage\n"),
     ];
     let unit = raw_unit(rt.alloc())?;
+    let samples = raw_samples(rt.alloc())?;
     for (words, status, output, line) in cases {
-        let seen = run_over(rt.alloc(), words, &unit, &WHOLE)?;
-        assert_eq!(rt; seen.status, status, "of {words}");
-        assert_eq!(rt; seen.output.len(), output, "of {words}");
-        assert_eq!(rt; seen.line.as_slice(), line.as_bytes(), "of {words}");
+        let want = (status, &samples.as_slice()[..output], line);
+        assert_run(&rt, rt.alloc(), words, &unit, &WHOLE, want)?;
     }
-    let upper = run_over(
-        rt.alloc(),
-        "decode-raw --bits 16 --presentation 0",
-        &SILENT,
-        &WHOLE,
-    )?;
-    assert_eq!(rt; upper.status, 0);
-    assert_eq!(rt; upper.output.len(), 320);
-    Ok(())
+    let upper = "decode-raw --bits 16 --presentation 0";
+    assert_run(&rt, rt.alloc(), upper, &SILENT, &WHOLE, (0, &[0; 320], ""))
 }
 
 /// The units have 35,014 bytes, and more of them is read after the first writes.

@@ -1,5 +1,5 @@
 //! The command `decode-wav`.
-use crate::runs::{WHOLE, run_over};
+use crate::runs::{WHOLE, assert_run, run_over};
 use crate::streams::{ENDED, RAMPS, ramp_samples};
 use std::test::Fail;
 
@@ -16,9 +16,7 @@ pub const SILENCE: [u8; 74] = [
 
 #[test]
 fn writes_a_header_and_the_samples(rt: HostRuntime) -> Result<(), Fail> {
-    let silence = run_over(rt.alloc(), WORDS, &ENDED, &WHOLE)?;
-    assert_eq!(rt; silence.status, 0);
-    assert_eq!(rt; silence.output.as_slice(), SILENCE.as_slice());
+    assert_run(&rt, rt.alloc(), WORDS, &ENDED, &WHOLE, (0, &SILENCE, ""))?;
     let ramps = run_over(rt.alloc(), WORDS, &RAMPS, &WHOLE)?;
     assert_eq!(rt; ramps.status, 0);
     let samples = ramp_samples(rt.alloc())?;

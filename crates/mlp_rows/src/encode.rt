@@ -1,6 +1,6 @@
 //! The commands that encode.
 use crate::decode_wav::SILENCE;
-use crate::runs::{Edge, WHOLE, run_over};
+use crate::runs::{Edge, WHOLE, assert_run, run_over};
 use crate::streams::{ENDED, RAMPS, next_state, ramp_samples, repeated};
 use std::alloc::{AllocError, Global};
 use std::test::Fail;
@@ -19,22 +19,14 @@ const GOING_ON: [u8; 60] = [
 
 #[test]
 fn encodes_pcm_in_any_pieces(rt: HostRuntime) -> Result<(), Fail> {
-    let alloc = rt.alloc();
-    let ramps = ramp_samples(alloc)?;
+    let ramps = ramp_samples(rt.alloc())?;
     for piece in [1, 2, 7, 8190] {
         let edge = Edge { piece, ..WHOLE };
-        let seen = run_over(alloc, WORDS, &ramps, &edge)?;
-        assert_eq!(rt; seen.status, 0, "by {piece}");
-        assert_eq!(rt; seen.output.as_slice(), RAMPS.as_slice(), "by {piece}");
-        assert_eq!(rt; seen.line.len(), 0, "by {piece}");
+        assert_run(&rt, rt.alloc(), WORDS, &ramps, &edge, (0, &RAMPS, ""))?;
     }
-    let one = run_over(alloc, WORDS, &[0; 6], &WHOLE)?;
-    assert_eq!(rt; one.status, 0);
-    assert_eq!(rt; one.output.as_slice(), ENDED.as_slice());
-    let file = run_over(alloc, "encode-wav --format truehd", &SILENCE, &WHOLE)?;
-    assert_eq!(rt; file.status, 0);
-    assert_eq!(rt; file.output.as_slice(), ENDED.as_slice());
-    Ok(())
+    assert_run(&rt, rt.alloc(), WORDS, &[0; 6], &WHOLE, (0, &ENDED, ""))?;
+    let file = "encode-wav --format truehd";
+    assert_run(&rt, rt.alloc(), file, &SILENCE, &WHOLE, (0, &ENDED, ""))
 }
 
 /// A frame of six channels at one end of the range, and two channels that its mix has.
@@ -77,9 +69,15 @@ fn encodes_what_decodes_to_the_pcm(rt: HostRuntime) -> Result<(), Fail> {
         let pcm = repeated(alloc, pcm, times)?;
         let stream = run_over(alloc, encode, &pcm, &WHOLE)?;
         assert_eq!(rt; stream.status, 0, "of {encode}");
-        let seen = run_over(alloc, decode, &stream.output, &WHOLE)?;
-        assert_eq!(rt; seen.status, 0, "of {encode}");
-        assert_eq!(rt; seen.output, repeated(alloc, shown, times)?, "of {encode}");
+        let shown = repeated(alloc, shown, times)?;
+        assert_run(
+            &rt,
+            rt.alloc(),
+            decode,
+            &stream.output,
+            &WHOLE,
+            (0, &shown, ""),
+        )?;
     }
     Ok(())
 }
@@ -110,10 +108,14 @@ fn refuses_pcm_by_name(rt: HostRuntime) -> Result<(), Fail> {
         (WORDS, &silence, "pcm refused: PartialFrame\n", 60),
     ];
     for (words, pcm, line, written) in cases {
-        let seen = run_over(rt.alloc(), words, pcm, &WHOLE)?;
-        assert_eq!(rt; seen.status, 3, "of {line}");
-        assert_eq!(rt; seen.output.as_slice(), &GOING_ON[..written], "of {line}");
-        assert_eq!(rt; seen.line.as_slice(), line.as_bytes());
+        assert_run(
+            &rt,
+            rt.alloc(),
+            words,
+            pcm,
+            &WHOLE,
+            (3, &GOING_ON[..written], line),
+        )?;
     }
     Ok(())
 }
@@ -140,14 +142,16 @@ fn refuses_a_profile_before_it_reads(rt: HostRuntime) -> Result<(), Fail> {
         ),
     ];
     for (words, line) in cases {
-        let seen = run_over(rt.alloc(), words, &[0; 6], &edge)?;
-        assert_eq!(rt; seen.status, 3, "of {words}");
-        assert_eq!(rt; seen.output.len(), 0, "of {words}");
-        assert_eq!(rt; seen.line.as_slice(), line.as_bytes());
+        assert_run(&rt, rt.alloc(), words, &[0; 6], &edge, (3, &[], line))?;
     }
-    let read = run_over(rt.alloc(), WORDS, &[0; 6], &edge)?;
-    assert_eq!(rt; read.status, 5);
-    Ok(())
+    assert_run(
+        &rt,
+        rt.alloc(),
+        WORDS,
+        &[0; 6],
+        &edge,
+        (5, &[], "read fault\n"),
+    )
 }
 
 /// Each with a byte of the file that is changed, and how many of its bytes are left.
@@ -170,10 +174,14 @@ fn refuses_a_header_by_its_field(rt: HostRuntime) -> Result<(), Fail> {
         let mut file = SILENCE;
         file[place] = byte;
         let words = "encode-wav --format truehd";
-        let seen = run_over(rt.alloc(), words, &file[..length], &WHOLE)?;
-        assert_eq!(rt; seen.status, 3, "of {line}");
-        assert_eq!(rt; seen.output.len(), 0, "of {line}");
-        assert_eq!(rt; seen.line.as_slice(), line.as_bytes());
+        assert_run(
+            &rt,
+            rt.alloc(),
+            words,
+            &file[..length],
+            &WHOLE,
+            (3, &[], line),
+        )?;
     }
     Ok(())
 }

@@ -1,5 +1,5 @@
 //! The command `extract`.
-use crate::runs::{WHOLE, run_over};
+use crate::runs::{WHOLE, assert_run};
 use crate::streams::{ENDED, LONG_SYNC, RAMPS, SILENT};
 use std::test::Fail;
 
@@ -8,9 +8,14 @@ use std::test::Fail;
 fn gives_a_stream_of_one_presentation_again(rt: HostRuntime) -> Result<(), Fail> {
     let cases: [&[u8]; 4] = [&SILENT, &ENDED, &LONG_SYNC, &RAMPS];
     for stream in cases {
-        let seen = run_over(rt.alloc(), "extract --presentation 0", stream, &WHOLE)?;
-        assert_eq!(rt; seen.status, 0);
-        assert_eq!(rt; seen.output.as_slice(), stream);
+        assert_run(
+            &rt,
+            rt.alloc(),
+            "extract --presentation 0",
+            stream,
+            &WHOLE,
+            (0, stream, ""),
+        )?;
     }
     Ok(())
 }

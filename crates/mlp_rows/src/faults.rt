@@ -1,5 +1,5 @@
 //! Each command where a read or a write fails.
-use crate::runs::{Edge, WHOLE, run_over};
+use crate::runs::{Edge, WHOLE, assert_run, run_over};
 use crate::streams::{SILENT, raw_samples, raw_unit};
 use std::test::Fail;
 
@@ -44,15 +44,14 @@ fn tells_a_write_that_fails(rt: HostRuntime) -> Result<(), Fail> {
             write_fails: &[0],
             ..WHOLE
         };
-        let seen = run_over(rt.alloc(), words, &SILENT, &edge)?;
-        assert_eq!(rt; seen.status, 6, "of {words}");
-        assert_eq!(rt; seen.output.len(), 0, "of {words}");
-        assert_eq!(rt;
-            seen.line.as_slice(),
-            b"write fault\n".as_slice(),
-            "of {words}"
-        );
-        assert_eq!(rt; seen.late, 0, "of {words}");
+        assert_run(
+            &rt,
+            rt.alloc(),
+            words,
+            &SILENT,
+            &edge,
+            (6, &[], "write fault\n"),
+        )?;
     }
     Ok(())
 }
@@ -60,16 +59,16 @@ fn tells_a_write_that_fails(rt: HostRuntime) -> Result<(), Fail> {
 #[test]
 fn writes_as_much_as_there_is_room_for(rt: HostRuntime) -> Result<(), Fail> {
     let edge = Edge { room: 100, ..WHOLE };
-    let seen = run_over(
-        rt.alloc(),
-        "decode-raw --presentation 0",
-        &raw_unit(rt.alloc())?,
-        &edge,
-    )?;
-    assert_eq!(rt; seen.status, 6);
+    let unit = raw_unit(rt.alloc())?;
     let mut front = raw_samples(rt.alloc())?;
     front.truncate(100);
-    assert_eq!(rt; seen.output, front);
-    assert_eq!(rt; seen.late, 0);
-    Ok(())
+    let want = (6, front.as_slice(), "write fault\n");
+    assert_run(
+        &rt,
+        rt.alloc(),
+        "decode-raw --presentation 0",
+        &unit,
+        &edge,
+        want,
+    )
 }

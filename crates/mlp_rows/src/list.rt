@@ -1,5 +1,5 @@
 //! The command `list`.
-use crate::runs::{Edge, WHOLE, run_over};
+use crate::runs::{Edge, WHOLE, assert_run};
 use crate::streams::SILENT;
 use std::test::Fail;
 
@@ -28,22 +28,20 @@ const BOTH: &str =
 fn writes_a_line_for_each_unit(rt: HostRuntime) -> Result<(), Fail> {
     for piece in [1, 2, 7, 8190] {
         let edge = Edge { piece, ..WHOLE };
-        let seen = run_over(rt.alloc(), "list", &SILENT, &edge)?;
-        assert_eq!(rt; seen.status, 0);
-        assert_eq!(rt; seen.output.as_slice(), BOTH.as_bytes());
-        assert_eq!(rt; seen.line.len(), 0);
+        assert_run(
+            &rt,
+            rt.alloc(),
+            "list",
+            &SILENT,
+            &edge,
+            (0, BOTH.as_bytes(), ""),
+        )?;
     }
-    let mlp = run_over(rt.alloc(), "list", &MLP, &WHOLE)?;
-    assert_eq!(rt;
-        mlp.output.as_slice(),
-        b"unit 0 bytes 40 time 65535 sync mlp 44100 substreams 1 ends 2 extra 2\nunit 1 bytes 10 time 39 ends 1 extra 2\n".as_slice()
-    );
-    let four = run_over(rt.alloc(), "list", &FOUR, &WHOLE)?;
-    assert_eq!(rt;
-        four.output.as_slice(),
-        b"unit 0 bytes 52 time 258 sync truehd 48000 substreams 4 ends 1 1 3 4 extra 2\n".as_slice()
-    );
-    Ok(())
+    let mlp =
+        b"unit 0 bytes 40 time 65535 sync mlp 44100 substreams 1 ends 2 extra 2\nunit 1 bytes 10 time 39 ends 1 extra 2\n";
+    assert_run(&rt, rt.alloc(), "list", &MLP, &WHOLE, (0, mlp, ""))?;
+    let four = b"unit 0 bytes 52 time 258 sync truehd 48000 substreams 4 ends 1 1 3 4 extra 2\n";
+    assert_run(&rt, rt.alloc(), "list", &FOUR, &WHOLE, (0, four, ""))
 }
 
 /// A byte of the stream is changed, and some of its bytes are left.
@@ -86,10 +84,8 @@ fn refuses_what_breaks_a_rule_of_the_outer_parts(rt: HostRuntime) -> Result<(), 
             *byte = other;
         }
         stream.truncate(left);
-        let seen = run_over(rt.alloc(), "list", &stream, &WHOLE)?;
-        assert_eq!(rt; seen.status, u8::from(!line.is_empty()), "at {place}");
-        assert_eq!(rt; seen.output.as_slice(), output.as_bytes(), "at {place}");
-        assert_eq!(rt; seen.line.as_slice(), line.as_bytes(), "at {place}");
+        let want = (u8::from(!line.is_empty()), output.as_bytes(), line);
+        assert_run(&rt, rt.alloc(), "list", &stream, &WHOLE, want)?;
     }
     Ok(())
 }

@@ -1,5 +1,5 @@
 //! The command `retime`.
-use crate::runs::{Edge, WHOLE, run_over};
+use crate::runs::{Edge, WHOLE, assert_run};
 use crate::streams::{EARLY, ENDED, RAMPS, SILENT};
 use std::test::Fail;
 
@@ -14,9 +14,7 @@ fn gives_each_unit_its_earliest_time(rt: HostRuntime) -> Result<(), Fail> {
     for (stream, retimed) in cases {
         for piece in [7, 8190] {
             let edge = Edge { piece, ..WHOLE };
-            let seen = run_over(rt.alloc(), "retime", stream, &edge)?;
-            assert_eq!(rt; seen.status, 0);
-            assert_eq!(rt; seen.output.as_slice(), retimed);
+            assert_run(&rt, rt.alloc(), "retime", stream, &edge, (0, retimed, ""))?;
         }
     }
     Ok(())

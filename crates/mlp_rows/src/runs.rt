@@ -4,6 +4,8 @@ use crate::watched::{Watch, WatchedSink, WatchedSource};
 use mlp_io::{MemSink, MemSource};
 use mlp_tool::run;
 use std::alloc::{AllocError, Global};
+use std::process::Abort;
+use std::test::Fail;
 
 /// How the input comes, how much the output takes, and which calls of either fail.
 #[derive(Clone, Copy)]
@@ -57,4 +59,25 @@ pub fn run_over(alloc: Global, words: &str, bytes: &[u8], edge: &Edge) -> Result
         line: errors.bytes().to_vec(alloc)?,
         late: watch.late(),
     })
+}
+
+/// What a run has to come to: its status, its output and its line.
+pub type Want<'a> = (u8, &'a [u8], &'a str);
+
+/// Runs the words over these bytes, and fails unless all that is wanted comes of it.
+pub fn assert_run(
+    rt: &impl Abort,
+    alloc: Global,
+    words: &str,
+    bytes: &[u8],
+    edge: &Edge,
+    want: Want,
+) -> Result<(), Fail> {
+    let seen = run_over(alloc, words, bytes, edge)?;
+    let (status, output, line) = want;
+    assert_eq!(rt; seen.status, status, "of {words}, for {line}");
+    assert_eq!(rt; seen.output.as_slice(), output, "of {words}, for {line}");
+    assert_eq!(rt; seen.line.as_slice(), line.as_bytes(), "of {words}");
+    assert_eq!(rt; seen.late, 0, "of {words}, for {line}");
+    Ok(())
 }
