@@ -5,6 +5,7 @@ use mlp_unit::{
     frame, is_writable, next_outer, read_directory, read_outer, segment_bytes, segment_range,
     write_unit,
 };
+use std::alloc::Global;
 use std::process::Abort;
 
 /// A silent first unit.
@@ -36,522 +37,93 @@ fn outer(rt: &impl Abort, next: &[u8], first: Option<&MajorSync>) -> Result<Oute
     }
 }
 
-/// The fault of a unit behind a first one, or of a first one where that is empty.
-fn fault(rt: &impl Abort, first: &[u8], unit: &[u8]) -> Option<Broken> {
-    if first.is_empty() {
-        return outer(rt, unit, None).err();
-    }
-    match outer(rt, first, None) {
-        Ok(o) => outer(rt, unit, o.major.as_ref()).err(),
-        Err(e) => Some(e),
-    }
-}
-
-#[test]
-fn rules_on_head_and_kind(rt: HostRuntime) {
-    let none: &[u8] = &[];
-    let cases: [(&[u8], &[u8], Field, u32); 11] = [
-        (none, &[], Field::UnitHeader, 0),
-        (&FIRST_TRUEHD, &[0x40, 5, 0], Field::UnitHeader, 0),
-        (&FIRST_TRUEHD, &[0xE0, 1, 0, 0], Field::UnitLength, 4),
-        (
-            none,
-            &[
-                0xF0, 0, 0, 0, 0xD0, 0x1D, 0, 0, 0xF8, 0x72, 0x6F, 0xBA, 0, 0, 0x80, 1, 0xB7, 0x52,
-                0, 0, 0, 0, 0x97, 0x6F, 0x10, 0, 0, 0, 0, 0, 0, 0, 0, 0, 0x64, 0x21, 0x20, 0x0C,
-                0xF1, 0xEA, 0x0E, 0x10, 1, 0x10, 0, 0, 0, 0, 0, 0, 0, 0, 0, 3, 0x98, 0x8A, 4, 0,
-                0x80, 0x10, 0x38, 0xC5,
-            ],
-            Field::UnitLength,
-            4,
-        ),
-        (
-            &FIRST_TRUEHD,
-            &[0x40, 5, 0, 0x28, 0x60, 2, 0x40, 0, 0xE9],
-            Field::UnitLength,
-            4,
-        ),
-        (
-            none,
-            &[
-                0x40, 5, 0, 0x28, 0x60, 2, 0x40, 0, 0xE9, 0x1D, 0xD0, 0x1D, 0, 0, 0xF8, 0x72, 0x6F,
-                0xBA, 0, 0, 0x80, 1, 0xB7, 0x52, 0, 0, 0, 0, 0x97, 0x6F, 0x10, 0, 0, 0, 0, 0, 0, 0,
-                0, 0, 0x64, 0x21, 0x20, 0x0C, 0xF1, 0xEA, 0x0E, 0x10, 1, 0x10, 0, 0, 0, 0, 0, 0, 0,
-                0, 0, 3, 0x98, 0x8A, 4, 0, 0x80, 0x10, 0x38, 0xC5,
-            ],
-            Field::FirstSync,
-            32,
-        ),
-        (
-            none,
-            &[
-                0x10, 2, 0, 3, 0xD0, 0x1D, 0, 0, 0xF8, 0x72, 0x6F, 0xBA, 0, 0, 0x80, 1, 0xB7, 0x52,
-                0, 0, 0, 0, 0x97, 0x6F, 0x10, 0, 0, 0, 0, 0, 0, 0, 0, 0, 0x64, 0x21, 0x20, 0x0C,
-                0xF1, 0xEA, 0x0E, 0x10, 1, 0x10, 0, 0, 0, 0, 0, 0, 0, 0, 0, 3, 0x98, 0x8A, 4, 0,
-                0x80, 0x10, 0x38, 0xC5,
-            ],
-            Field::FirstSync,
-            32,
-        ),
-        (
-            none,
-            &[
-                0, 3, 0, 0, 0xF8, 0x72, 0xD0, 0x1D, 0, 0, 0xF8, 0x72, 0x6F, 0xBA, 0, 0, 0x80, 1,
-                0xB7, 0x52, 0, 0, 0, 0, 0x97, 0x6F, 0x10, 0, 0, 0, 0, 0, 0, 0, 0, 0, 0x64, 0x21,
-                0x20, 0x0C, 0xF1, 0xEA, 0x0E, 0x10, 1, 0x10, 0, 0, 0, 0, 0, 0, 0, 0, 0, 3, 0x98,
-                0x8A, 4, 0, 0x80, 0x10, 0x38, 0xC5,
-            ],
-            Field::FirstSync,
-            32,
-        ),
-        (
-            &FIRST_TRUEHD,
-            &[
-                0x70, 0x1D, 0, 0x28, 0xF8, 0x72, 0x6F, 0xBB, 0x2F, 0x0F, 0, 1, 0xB7, 0x52, 0, 0, 0,
-                0, 0x8C, 0x7F, 0x10, 0, 0, 0, 0, 0, 0, 0, 0, 0, 0x45, 0xC2, 0x20, 0x0C, 0xF1, 0xEA,
-                0x0E, 0x10, 1, 0x10, 0, 0, 0, 0, 0, 0, 0, 0, 0, 3, 0x98, 0x8A, 4, 0, 0x80, 0x10,
-                0x38, 0xC5,
-            ],
-            Field::SyncKind,
-            32,
-        ),
-        (
-            &FIRST_TRUEHD,
-            &[
-                0x70, 0x1D, 0, 0x28, 0xF8, 0x72, 0x6F, 0xBB, 0x2F, 0x0F, 0, 1, 0xB7, 0x52, 0, 0, 0,
-                0, 0x97, 0x6F, 0x10, 0, 0, 0, 0, 0, 0, 0, 0, 0, 0, 1, 0x20, 0x0C, 0xF1, 0xEA, 0x0E,
-                0x10, 1, 0x10, 0, 0, 0, 0, 0, 0, 0, 0, 0, 3, 0x98, 0x8A, 4, 0, 0x80, 0x10, 0x38,
-                0xC5,
-            ],
-            Field::SyncKind,
-            32,
-        ),
-        (
-            &FIRST_MLP,
-            &[
-                0x70, 0x1D, 0, 0x28, 0xF8, 0x72, 0x6F, 0xBA, 0, 0, 0x80, 1, 0xB7, 0x52, 0, 0, 0, 0,
-                0x97, 0x6F, 0x10, 0, 0, 0, 0, 0, 0, 0, 0, 0, 0x64, 0x21, 0x20, 0x0C, 0xF1, 0xEA,
-                0x0E, 0x10, 1, 0x10, 0, 0, 0, 0, 0, 0, 0, 0, 0, 3, 0x98, 0x8A, 4, 0, 0x80, 0x10,
-                0x38, 0xC5,
-            ],
-            Field::SyncKind,
-            32,
-        ),
-    ];
-    for (first, unit, field, bit) in cases {
-        assert_eq!(rt;
-            fault(&rt, first, unit),
-            Some(Broken { field, bit }),
-            "{field:?} at {bit}"
-        );
+/// Whether the unit of a line breaks first the rule of the line.
+fn is_named(rt: &impl Abort, alloc: Global, first: Option<&MajorSync>, line: &str) -> bool {
+    let (rule, rest) = line.split_once(' ').unwrap_or((line, ""));
+    let (bit, digits) = rest.split_once(' ').unwrap_or((rest, ""));
+    let Ok(bytes) = hex::decode(alloc, digits) else {
+        return false;
+    };
+    match outer(rt, &bytes, first) {
+        Ok(_outer) => false,
+        Err(broken) => broken.field.name() == rule && bit.parse() == Ok(broken.bit),
     }
 }
 
-#[test]
-fn rules_on_major_sync_check(rt: HostRuntime) {
-    let none: &[u8] = &[];
-    let cases: [(&[u8], &[u8], Field, u32); 7] = [
-        (
-            none,
-            &[
-                0xD0, 0x1D, 0, 0, 0xF8, 0x72, 0x6F, 0xBA, 0, 0, 0x80, 1, 0xB7, 0x52, 0, 0, 0, 0,
-                0x97, 0x6F, 0x10, 0, 0, 0, 0, 0, 0, 0, 0, 0, 0x64, 0x20, 0x20, 0x0C, 0xF1, 0xEA,
-                0x0E, 0x10, 1, 0x10, 0, 0, 0, 0, 0, 0, 0, 0, 0, 3, 0x98, 0x8A, 4, 0, 0x80, 0x10,
-                0x38, 0xC5,
-            ],
-            Field::MajorCrc,
-            32,
-        ),
-        (
-            none,
-            &[
-                0, 0x0F, 0, 0, 0xF8, 0x72, 0x6F, 0xBA, 0, 0, 0x80, 1, 0xB7, 0x52, 0, 0, 0, 0, 0x97,
-                0x6F, 0x10, 0, 0, 0, 0, 0, 0, 0, 0, 0,
-            ],
-            Field::MajorCrc,
-            32,
-        ),
-        (
-            none,
-            &[0xB0, 4, 0, 0, 0xF8, 0x72, 0x6F, 0xBA],
-            Field::MajorCrc,
-            32,
-        ),
-        (
-            none,
-            &[
-                0xB0, 0x15, 0, 0, 0xF8, 0x72, 0x6F, 0xBA, 0, 0, 0x80, 1, 0xB7, 0x52, 0, 0, 0, 0,
-                0x97, 0x6F, 0x10, 0, 0, 0, 0, 0, 0, 0, 0, 1, 0x50, 0, 0, 0, 0, 0, 0, 0, 0, 0, 0, 0,
-            ],
-            Field::MajorCrc,
-            32,
-        ),
-        (
-            none,
-            &[
-                0xE0, 0x10, 0, 0, 0xF8, 0x72, 0x6F, 0xBA, 0, 0, 0x80, 1, 0xB7, 0x52, 0, 0, 0, 0,
-                0x97, 0x6F, 0x10, 0, 0, 0, 0, 0, 0, 0, 0, 1, 0x50, 0,
-            ],
-            Field::MajorCrc,
-            32,
-        ),
-        (
-            none,
-            &[
-                0xD0, 0x1D, 0, 0, 0xF8, 0x72, 0x6F, 0xBA, 0, 0, 0x80, 1, 0xB7, 0x52, 0, 0, 0, 0,
-                0x97, 0x6F, 0x10, 0, 0, 0, 0, 0, 0, 0, 0, 1, 0x64, 0x20, 0x20, 0x0C, 0xF1, 0xEA,
-                0x0E, 0x10, 1, 0x10, 0, 0, 0, 0, 0, 0, 0, 0, 0, 3, 0x98, 0x8A, 4, 0, 0x80, 0x10,
-                0x38, 0xC5,
-            ],
-            Field::MajorCrc,
-            32,
-        ),
-        (
-            none,
-            &[
-                0xD0, 0x1D, 0, 0, 0xF8, 0x72, 0x6F, 0xBA, 0, 0, 0x80, 1, 0xB7, 0x53, 0, 0, 0, 0,
-                0x97, 0x6F, 0x10, 0, 0, 0, 0, 0, 0, 0, 0, 0, 0x18, 0xB9, 0x20, 0x0C, 0xF1, 0xEA,
-                0x0E, 0x10, 1, 0x10, 0, 0, 0, 0, 0, 0, 0, 0, 0, 3, 0x98, 0x8A, 4, 0, 0x80, 0x10,
-                0x38, 0xC5,
-            ],
-            Field::Signature,
-            96,
-        ),
-    ];
-    for (first, unit, field, bit) in cases {
-        assert_eq!(rt;
-            fault(&rt, first, unit),
-            Some(Broken { field, bit }),
-            "{field:?} at {bit}"
-        );
+fn assert_named(rt: &impl Abort, alloc: Global, first: Option<&MajorSync>, lines: &[&str]) {
+    for line in lines {
+        assert!(rt; is_named(rt, alloc, first, line), "{line}");
     }
 }
 
-#[test]
-fn rules_on_major_sync(rt: HostRuntime) {
-    let none: &[u8] = &[];
-    let cases: [(&[u8], &[u8], Field, u32); 12] = [
-        (
-            none,
-            &[
-                0xD0, 0x1D, 0, 0, 0xF8, 0x72, 0x6F, 0xBA, 0x30, 0, 0x80, 1, 0xB7, 0x52, 0, 0, 0, 0,
-                0x97, 0x6F, 0x10, 0, 0, 0, 0, 0, 0, 0, 0, 0, 0xF5, 0xDA, 0x20, 0x0C, 0xF1, 0xEA,
-                0x0E, 0x10, 1, 0x10, 0, 0, 0, 0, 0, 0, 0, 0, 0, 3, 0x98, 0x8A, 4, 0, 0x80, 0x10,
-                0x38, 0xC5,
-            ],
-            Field::Rate,
-            64,
-        ),
-        (
-            none,
-            &[
-                0xD0, 0x1D, 0, 0, 0xF8, 0x72, 0x6F, 0xBA, 0x70, 0, 0x80, 1, 0xB7, 0x52, 0, 0, 0, 0,
-                0x97, 0x6F, 0x10, 0, 0, 0, 0, 0, 0, 0, 0, 0, 0x37, 0x53, 0x20, 0x0C, 0xF1, 0xEA,
-                0x0E, 0x10, 1, 0x10, 0, 0, 0, 0, 0, 0, 0, 0, 0, 3, 0x98, 0x8A, 4, 0, 0x80, 0x10,
-                0x38, 0xC5,
-            ],
-            Field::Rate,
-            64,
-        ),
-        (
-            none,
-            &[
-                0xD0, 0x1D, 0, 0, 0xF8, 0x72, 0x6F, 0xBA, 0xB0, 0, 0x80, 1, 0xB7, 0x52, 0, 0, 0, 0,
-                0x97, 0x6F, 0x10, 0, 0, 0, 0, 0, 0, 0, 0, 0, 0x70, 0xE5, 0x20, 0x0C, 0xF1, 0xEA,
-                0x0E, 0x10, 1, 0x10, 0, 0, 0, 0, 0, 0, 0, 0, 0, 3, 0x98, 0x8A, 4, 0, 0x80, 0x10,
-                0x38, 0xC5,
-            ],
-            Field::Rate,
-            64,
-        ),
-        (
-            none,
-            &[
-                0xD0, 0x1D, 0, 0, 0xF8, 0x72, 0x6F, 0xBA, 0xF0, 0, 0x80, 1, 0xB7, 0x52, 0, 0, 0, 0,
-                0x97, 0x6F, 0x10, 0, 0, 0, 0, 0, 0, 0, 0, 0, 0xB2, 0x6C, 0x20, 0x0C, 0xF1, 0xEA,
-                0x0E, 0x10, 1, 0x10, 0, 0, 0, 0, 0, 0, 0, 0, 0, 3, 0x98, 0x8A, 4, 0, 0x80, 0x10,
-                0x38, 0xC5,
-            ],
-            Field::Rate,
-            64,
-        ),
-        (
-            none,
-            &[
-                0xD0, 0x1D, 0, 0, 0xF8, 0x72, 0x6F, 0xBB, 0x3F, 0xFF, 0, 1, 0xB7, 0x52, 0, 0, 0, 0,
-                0x97, 0x6F, 0x10, 0, 0, 0, 0, 0, 0, 0, 0, 0, 0x0E, 0x96, 0x20, 0x0C, 0xF1, 0xEA,
-                0x0E, 0x10, 1, 0x10, 0, 0, 0, 0, 0, 0, 0, 0, 0, 3, 0x98, 0x8A, 4, 0, 0x80, 0x10,
-                0x38, 0xC5,
-            ],
-            Field::Rate,
-            72,
-        ),
-        (
-            none,
-            &[
-                0xD0, 0x1D, 0, 0, 0xF8, 0x72, 0x6F, 0xBB, 0x3F, 1, 0, 1, 0xB7, 0x52, 0, 0, 0, 0,
-                0x97, 0x6F, 0x10, 0, 0, 0, 0, 0, 0, 0, 0, 0, 0x46, 0, 0x20, 0x0C, 0xF1, 0xEA, 0x0E,
-                0x10, 1, 0x10, 0, 0, 0, 0, 0, 0, 0, 0, 0, 3, 0x98, 0x8A, 4, 0, 0x80, 0x10, 0x38,
-                0xC5,
-            ],
-            Field::Quant,
-            64,
-        ),
-        (
-            none,
-            &[
-                0xD0, 0x1D, 0, 0, 0xF8, 0x72, 0x6F, 0xBB, 0x2F, 8, 0, 1, 0xB7, 0x52, 0, 0, 0, 0,
-                0x97, 0x6F, 0x10, 0, 0, 0, 0, 0, 0, 0, 0, 0, 0xCB, 0x5D, 0x20, 0x0C, 0xF1, 0xEA,
-                0x0E, 0x10, 1, 0x10, 0, 0, 0, 0, 0, 0, 0, 0, 0, 3, 0x98, 0x8A, 4, 0, 0x80, 0x10,
-                0x38, 0xC5,
-            ],
-            Field::GroupRate,
-            76,
-        ),
-        (
-            none,
-            &[
-                0xD0, 0x1D, 0, 0, 0xF8, 0x72, 0x6F, 0xBA, 0, 0, 0x80, 1, 0xB7, 0x52, 0, 0, 0, 0,
-                0x97, 0x6F, 0, 0, 0, 0, 0, 0, 0, 0, 0, 0, 0x5F, 0xA0, 0x20, 0x0C, 0xF1, 0xEA, 0x0E,
-                0x10, 1, 0x10, 0, 0, 0, 0, 0, 0, 0, 0, 0, 3, 0x98, 0x8A, 4, 0, 0x80, 0x10, 0x38,
-                0xC5,
-            ],
-            Field::Substreams,
-            160,
-        ),
-        (
-            none,
-            &[
-                0xD0, 0x1D, 0, 0, 0xF8, 0x72, 0x6F, 0xBA, 0, 0, 0x80, 1, 0xB7, 0x52, 0, 0, 0, 0,
-                0x97, 0x6F, 0x50, 0, 0, 0, 0, 0, 0, 0, 0, 0, 0x8A, 0x25, 0x20, 0x0C, 0xF1, 0xEA,
-                0x0E, 0x10, 1, 0x10, 0, 0, 0, 0, 0, 0, 0, 0, 0, 3, 0x98, 0x8A, 4, 0, 0x80, 0x10,
-                0x38, 0xC5,
-            ],
-            Field::Substreams,
-            160,
-        ),
-        (
-            none,
-            &[
-                0xD0, 0x1D, 0, 0, 0xF8, 0x72, 0x6F, 0xBB, 0x2F, 0x0F, 0, 1, 0xB7, 0x52, 0, 0, 0, 0,
-                0x97, 0x6F, 0x30, 0, 0, 0, 0, 0, 0, 0, 0, 0, 0xE8, 0xF3, 0x20, 0x0C, 0xF1, 0xEA,
-                0x0E, 0x10, 1, 0x10, 0, 0, 0, 0, 0, 0, 0, 0, 0, 3, 0x98, 0x8A, 4, 0, 0x80, 0x10,
-                0x38, 0xC5,
-            ],
-            Field::Substreams,
-            160,
-        ),
-        (
-            &FIRST_TRUEHD,
-            &[
-                0x70, 0x1D, 0, 0x28, 0xF8, 0x72, 0x6F, 0xBA, 0x80, 0, 0x80, 1, 0xB7, 0x52, 0, 0, 0,
-                0, 0x97, 0x6F, 0x10, 0, 0, 0, 0, 0, 0, 0, 0, 0, 0xE1, 0x1E, 0x20, 0x0C, 0xF1, 0xEA,
-                0x0E, 0x10, 1, 0x10, 0, 0, 0, 0, 0, 0, 0, 0, 0, 3, 0x98, 0x8A, 4, 0, 0x80, 0x10,
-                0x38, 0xC5,
-            ],
-            Field::SyncChanged,
-            32,
-        ),
-        (
-            &FIRST_TRUEHD,
-            &[
-                0x80, 0x2A, 0, 0x28, 0xF8, 0x72, 0x6F, 0xBA, 0, 0, 0x80, 1, 0xB7, 0x52, 0, 0, 0, 0,
-                0x97, 0x6F, 0x20, 0, 0, 0, 0, 0, 0, 0, 0, 0, 0x28, 0xA2, 0x20, 0x0C, 0x20, 0x18,
-                0xF1, 0xEA, 0x0E, 0x10, 1, 0x10, 0, 0, 0, 0, 0, 0, 0, 0, 0, 3, 0x98, 0x8A, 4, 0,
-                0x80, 0x10, 0x38, 0xC5, 0xF1, 0xEA, 0x0E, 0x10, 1, 0x10, 0, 0, 0, 0, 0, 0, 0, 0, 0,
-                3, 0x98, 0x8A, 4, 0, 0x80, 0x10, 0x38, 0xC5,
-            ],
-            Field::SyncChanged,
-            32,
-        ),
-    ];
-    for (first, unit, field, bit) in cases {
-        assert_eq!(rt;
-            fault(&rt, first, unit),
-            Some(Broken { field, bit }),
-            "{field:?} at {bit}"
-        );
-    }
-}
+/// First units: the first rule that each breaks, the bit that it names, and the bytes.
+const FIRST: [&str; 35] = [
+    "UnitHeader 0",
+    "UnitLength 4 F0000000D01D0000F8726FBA00008001B75200000000976F100000000000000000006421200CF1EA0E10011000000000000000000003988A0400801038C5",
+    "FirstSync 32 4005002860024000E91DD01D0000F8726FBA00008001B75200000000976F100000000000000000006421200CF1EA0E10011000000000000000000003988A0400801038C5",
+    "FirstSync 32 10020003D01D0000F8726FBA00008001B75200000000976F100000000000000000006421200CF1EA0E10011000000000000000000003988A0400801038C5",
+    "FirstSync 32 00030000F872D01D0000F8726FBA00008001B75200000000976F100000000000000000006421200CF1EA0E10011000000000000000000003988A0400801038C5",
+    "MajorCrc 32 D01D0000F8726FBA00008001B75200000000976F100000000000000000006420200CF1EA0E10011000000000000000000003988A0400801038C5",
+    "MajorCrc 32 000F0000F8726FBA00008001B75200000000976F10000000000000000000",
+    "MajorCrc 32 B0040000F8726FBA",
+    "MajorCrc 32 B0150000F8726FBA00008001B75200000000976F10000000000000000001500000000000000000000000",
+    "MajorCrc 32 E0100000F8726FBA00008001B75200000000976F100000000000000000015000",
+    "MajorCrc 32 D01D0000F8726FBA00008001B75200000000976F100000000000000000016420200CF1EA0E10011000000000000000000003988A0400801038C5",
+    "Signature 96 D01D0000F8726FBA00008001B75300000000976F1000000000000000000018B9200CF1EA0E10011000000000000000000003988A0400801038C5",
+    "Rate 64 D01D0000F8726FBA30008001B75200000000976F10000000000000000000F5DA200CF1EA0E10011000000000000000000003988A0400801038C5",
+    "Rate 64 D01D0000F8726FBA70008001B75200000000976F100000000000000000003753200CF1EA0E10011000000000000000000003988A0400801038C5",
+    "Rate 64 D01D0000F8726FBAB0008001B75200000000976F1000000000000000000070E5200CF1EA0E10011000000000000000000003988A0400801038C5",
+    "Rate 64 D01D0000F8726FBAF0008001B75200000000976F10000000000000000000B26C200CF1EA0E10011000000000000000000003988A0400801038C5",
+    "Rate 72 D01D0000F8726FBB3FFF0001B75200000000976F100000000000000000000E96200CF1EA0E10011000000000000000000003988A0400801038C5",
+    "Quant 64 D01D0000F8726FBB3F010001B75200000000976F100000000000000000004600200CF1EA0E10011000000000000000000003988A0400801038C5",
+    "GroupRate 76 D01D0000F8726FBB2F080001B75200000000976F10000000000000000000CB5D200CF1EA0E10011000000000000000000003988A0400801038C5",
+    "Substreams 160 D01D0000F8726FBA00008001B75200000000976F000000000000000000005FA0200CF1EA0E10011000000000000000000003988A0400801038C5",
+    "Substreams 160 D01D0000F8726FBA00008001B75200000000976F500000000000000000008A25200CF1EA0E10011000000000000000000003988A0400801038C5",
+    "Substreams 160 D01D0000F8726FBB2F0F0001B75200000000976F30000000000000000000E8F3200CF1EA0E10011000000000000000000003988A0400801038C5",
+    "DirectoryShort 256 E0100000F8726FBA00008001B75200000000976F100000000000000000006421",
+    "DirectoryShort 256 50110000F8726FBA00008001B75200000000976F100000000000000000006421A000",
+    "DirectoryShort 272 D0110000F8726FBA00008001B75200000000976F2000000000000000000028A22000",
+    "DirectoryShort 288 20120000F8726FBB2F0F0001B75200000000976F20000000000000000000D372A0001234",
+    "ExtraWord 256 601E0000F8726FBB2F0F0001B752000000008C7F1000000000000000000045C2A00C0000F1EA0E10011000000000000000000003988A0400801038C5",
+    "ExtraWord 272 E02B0000F8726FBB2F0F0001B75200000000976F20000000000000000000D372200CA018FFFFF1EA0E10011000000000000000000003988A0400801038C5F1EA0E10011000000000000000000003988A0400801038C5",
+    "UnitParity 0 201E0000F8726FBA00008001B75200000000976F100000000000000000006421E00C1000F1EA0E10011000000000000000000003988A0400801038C5",
+    "RestartFlag 257 901D0000F8726FBA00008001B75200000000976F100000000000000000006421600CF1EA0E10011000000000000000000003988A0400801038C5",
+    "RestartFlag 273 502A0000F8726FBA00008001B75200000000976F2000000000000000000028A22FFF6018F1EA0E10011000000000000000000003988A0400801038C5F1EA0E10011000000000000000000003988A0400801038C5",
+    "DirectoryEnd 260 C01D0000F8726FBA00008001B75200000000976F100000000000000000006421200DF1EA0E10011000000000000000000003988A0400801038C5",
+    "DirectoryEnd 276 802A0000F8726FBA00008001B75200000000976F2000000000000000000028A2200C2003F1EA0E10011000000000000000000003988A0400801038C5F1EA0E10011000000000000000000003988A0400801038C5",
+    "DirectoryEnd 308 402E0000F8726FBA00008001B75200000000976F40000000000000000000B1A4200C20182019201BF1EA0E10011000000000000000000003988A0400801038C5F1EA0E10011000000000000000000003988A0400801038C500000000",
+    "DirectoryEnd 292 102C0000F8726FBA00008001B75200000000976F2000000000000000000028A2A00C0001AFFF0002F1EA0E10011000000000000000000003988A0400801038C5F1EA0E10011000000000000000000003988A0400801038C5",
+];
+
+/// The same of units behind `FIRST_TRUEHD`.
+const BEHIND_TRUEHD: [&str; 10] = [
+    "UnitHeader 0 400500",
+    "UnitLength 4 E0010000",
+    "UnitLength 4 4005002860024000E9",
+    "SyncKind 32 701D0028F8726FBB2F0F0001B752000000008C7F1000000000000000000045C2200CF1EA0E10011000000000000000000003988A0400801038C5",
+    "SyncKind 32 701D0028F8726FBB2F0F0001B75200000000976F100000000000000000000001200CF1EA0E10011000000000000000000003988A0400801038C5",
+    "SyncChanged 32 701D0028F8726FBA80008001B75200000000976F10000000000000000000E11E200CF1EA0E10011000000000000000000003988A0400801038C5",
+    "SyncChanged 32 802A0028F8726FBA00008001B75200000000976F2000000000000000000028A2200C2018F1EA0E10011000000000000000000003988A0400801038C5F1EA0E10011000000000000000000003988A0400801038C5",
+    "DirectoryShort 32 00020028",
+    "UnitParity 0 5005002860024000E91D",
+    "RestartFlag 33 0005002820024000E91D",
+];
+
+/// The same of units behind `FIRST_MLP`.
+const BEHIND_MLP: [&str; 1] = [
+    "SyncKind 32 701D0028F8726FBA00008001B75200000000976F100000000000000000006421200CF1EA0E10011000000000000000000003988A0400801038C5",
+];
 
 #[test]
-fn rules_on_directory_fields(rt: HostRuntime) {
-    let none: &[u8] = &[];
-    let cases: [(&[u8], &[u8], Field, u32); 7] = [
-        (
-            none,
-            &[
-                0xE0, 0x10, 0, 0, 0xF8, 0x72, 0x6F, 0xBA, 0, 0, 0x80, 1, 0xB7, 0x52, 0, 0, 0, 0,
-                0x97, 0x6F, 0x10, 0, 0, 0, 0, 0, 0, 0, 0, 0, 0x64, 0x21,
-            ],
-            Field::DirectoryShort,
-            256,
-        ),
-        (
-            none,
-            &[
-                0x50, 0x11, 0, 0, 0xF8, 0x72, 0x6F, 0xBA, 0, 0, 0x80, 1, 0xB7, 0x52, 0, 0, 0, 0,
-                0x97, 0x6F, 0x10, 0, 0, 0, 0, 0, 0, 0, 0, 0, 0x64, 0x21, 0xA0, 0,
-            ],
-            Field::DirectoryShort,
-            256,
-        ),
-        (
-            none,
-            &[
-                0xD0, 0x11, 0, 0, 0xF8, 0x72, 0x6F, 0xBA, 0, 0, 0x80, 1, 0xB7, 0x52, 0, 0, 0, 0,
-                0x97, 0x6F, 0x20, 0, 0, 0, 0, 0, 0, 0, 0, 0, 0x28, 0xA2, 0x20, 0,
-            ],
-            Field::DirectoryShort,
-            272,
-        ),
-        (
-            none,
-            &[
-                0x20, 0x12, 0, 0, 0xF8, 0x72, 0x6F, 0xBB, 0x2F, 0x0F, 0, 1, 0xB7, 0x52, 0, 0, 0, 0,
-                0x97, 0x6F, 0x20, 0, 0, 0, 0, 0, 0, 0, 0, 0, 0xD3, 0x72, 0xA0, 0, 0x12, 0x34,
-            ],
-            Field::DirectoryShort,
-            288,
-        ),
-        (&FIRST_TRUEHD, &[0, 2, 0, 0x28], Field::DirectoryShort, 32),
-        (
-            none,
-            &[
-                0x60, 0x1E, 0, 0, 0xF8, 0x72, 0x6F, 0xBB, 0x2F, 0x0F, 0, 1, 0xB7, 0x52, 0, 0, 0, 0,
-                0x8C, 0x7F, 0x10, 0, 0, 0, 0, 0, 0, 0, 0, 0, 0x45, 0xC2, 0xA0, 0x0C, 0, 0, 0xF1,
-                0xEA, 0x0E, 0x10, 1, 0x10, 0, 0, 0, 0, 0, 0, 0, 0, 0, 3, 0x98, 0x8A, 4, 0, 0x80,
-                0x10, 0x38, 0xC5,
-            ],
-            Field::ExtraWord,
-            256,
-        ),
-        (
-            none,
-            &[
-                0xE0, 0x2B, 0, 0, 0xF8, 0x72, 0x6F, 0xBB, 0x2F, 0x0F, 0, 1, 0xB7, 0x52, 0, 0, 0, 0,
-                0x97, 0x6F, 0x20, 0, 0, 0, 0, 0, 0, 0, 0, 0, 0xD3, 0x72, 0x20, 0x0C, 0xA0, 0x18,
-                0xFF, 0xFF, 0xF1, 0xEA, 0x0E, 0x10, 1, 0x10, 0, 0, 0, 0, 0, 0, 0, 0, 0, 3, 0x98,
-                0x8A, 4, 0, 0x80, 0x10, 0x38, 0xC5, 0xF1, 0xEA, 0x0E, 0x10, 1, 0x10, 0, 0, 0, 0, 0,
-                0, 0, 0, 0, 3, 0x98, 0x8A, 4, 0, 0x80, 0x10, 0x38, 0xC5,
-            ],
-            Field::ExtraWord,
-            272,
-        ),
+fn names_the_first_fault(rt: HostRuntime) {
+    assert_named(&rt, rt.alloc(), None, &FIRST);
+    let behind: [(&[u8], &[&str]); 2] = [
+        (&FIRST_TRUEHD, &BEHIND_TRUEHD),
+        (&FIRST_MLP, &BEHIND_MLP),
     ];
-    for (first, unit, field, bit) in cases {
-        assert_eq!(rt;
-            fault(&rt, first, unit),
-            Some(Broken { field, bit }),
-            "{field:?} at {bit}"
-        );
-    }
-}
-
-#[test]
-fn rules_on_directory(rt: HostRuntime) {
-    let none: &[u8] = &[];
-    let cases: [(&[u8], &[u8], Field, u32); 9] = [
-        (
-            &FIRST_TRUEHD,
-            &[0x50, 5, 0, 0x28, 0x60, 2, 0x40, 0, 0xE9, 0x1D],
-            Field::UnitParity,
-            0,
-        ),
-        (
-            none,
-            &[
-                0x20, 0x1E, 0, 0, 0xF8, 0x72, 0x6F, 0xBA, 0, 0, 0x80, 1, 0xB7, 0x52, 0, 0, 0, 0,
-                0x97, 0x6F, 0x10, 0, 0, 0, 0, 0, 0, 0, 0, 0, 0x64, 0x21, 0xE0, 0x0C, 0x10, 0, 0xF1,
-                0xEA, 0x0E, 0x10, 1, 0x10, 0, 0, 0, 0, 0, 0, 0, 0, 0, 3, 0x98, 0x8A, 4, 0, 0x80,
-                0x10, 0x38, 0xC5,
-            ],
-            Field::UnitParity,
-            0,
-        ),
-        (
-            none,
-            &[
-                0x90, 0x1D, 0, 0, 0xF8, 0x72, 0x6F, 0xBA, 0, 0, 0x80, 1, 0xB7, 0x52, 0, 0, 0, 0,
-                0x97, 0x6F, 0x10, 0, 0, 0, 0, 0, 0, 0, 0, 0, 0x64, 0x21, 0x60, 0x0C, 0xF1, 0xEA,
-                0x0E, 0x10, 1, 0x10, 0, 0, 0, 0, 0, 0, 0, 0, 0, 3, 0x98, 0x8A, 4, 0, 0x80, 0x10,
-                0x38, 0xC5,
-            ],
-            Field::RestartFlag,
-            257,
-        ),
-        (
-            &FIRST_TRUEHD,
-            &[0, 5, 0, 0x28, 0x20, 2, 0x40, 0, 0xE9, 0x1D],
-            Field::RestartFlag,
-            33,
-        ),
-        (
-            none,
-            &[
-                0x50, 0x2A, 0, 0, 0xF8, 0x72, 0x6F, 0xBA, 0, 0, 0x80, 1, 0xB7, 0x52, 0, 0, 0, 0,
-                0x97, 0x6F, 0x20, 0, 0, 0, 0, 0, 0, 0, 0, 0, 0x28, 0xA2, 0x2F, 0xFF, 0x60, 0x18,
-                0xF1, 0xEA, 0x0E, 0x10, 1, 0x10, 0, 0, 0, 0, 0, 0, 0, 0, 0, 3, 0x98, 0x8A, 4, 0,
-                0x80, 0x10, 0x38, 0xC5, 0xF1, 0xEA, 0x0E, 0x10, 1, 0x10, 0, 0, 0, 0, 0, 0, 0, 0, 0,
-                3, 0x98, 0x8A, 4, 0, 0x80, 0x10, 0x38, 0xC5,
-            ],
-            Field::RestartFlag,
-            273,
-        ),
-        (
-            none,
-            &[
-                0xC0, 0x1D, 0, 0, 0xF8, 0x72, 0x6F, 0xBA, 0, 0, 0x80, 1, 0xB7, 0x52, 0, 0, 0, 0,
-                0x97, 0x6F, 0x10, 0, 0, 0, 0, 0, 0, 0, 0, 0, 0x64, 0x21, 0x20, 0x0D, 0xF1, 0xEA,
-                0x0E, 0x10, 1, 0x10, 0, 0, 0, 0, 0, 0, 0, 0, 0, 3, 0x98, 0x8A, 4, 0, 0x80, 0x10,
-                0x38, 0xC5,
-            ],
-            Field::DirectoryEnd,
-            260,
-        ),
-        (
-            none,
-            &[
-                0x80, 0x2A, 0, 0, 0xF8, 0x72, 0x6F, 0xBA, 0, 0, 0x80, 1, 0xB7, 0x52, 0, 0, 0, 0,
-                0x97, 0x6F, 0x20, 0, 0, 0, 0, 0, 0, 0, 0, 0, 0x28, 0xA2, 0x20, 0x0C, 0x20, 3, 0xF1,
-                0xEA, 0x0E, 0x10, 1, 0x10, 0, 0, 0, 0, 0, 0, 0, 0, 0, 3, 0x98, 0x8A, 4, 0, 0x80,
-                0x10, 0x38, 0xC5, 0xF1, 0xEA, 0x0E, 0x10, 1, 0x10, 0, 0, 0, 0, 0, 0, 0, 0, 0, 3,
-                0x98, 0x8A, 4, 0, 0x80, 0x10, 0x38, 0xC5,
-            ],
-            Field::DirectoryEnd,
-            276,
-        ),
-        (
-            none,
-            &[
-                0x40, 0x2E, 0, 0, 0xF8, 0x72, 0x6F, 0xBA, 0, 0, 0x80, 1, 0xB7, 0x52, 0, 0, 0, 0,
-                0x97, 0x6F, 0x40, 0, 0, 0, 0, 0, 0, 0, 0, 0, 0xB1, 0xA4, 0x20, 0x0C, 0x20, 0x18,
-                0x20, 0x19, 0x20, 0x1B, 0xF1, 0xEA, 0x0E, 0x10, 1, 0x10, 0, 0, 0, 0, 0, 0, 0, 0, 0,
-                3, 0x98, 0x8A, 4, 0, 0x80, 0x10, 0x38, 0xC5, 0xF1, 0xEA, 0x0E, 0x10, 1, 0x10, 0, 0,
-                0, 0, 0, 0, 0, 0, 0, 3, 0x98, 0x8A, 4, 0, 0x80, 0x10, 0x38, 0xC5, 0, 0, 0, 0,
-            ],
-            Field::DirectoryEnd,
-            308,
-        ),
-        (
-            none,
-            &[
-                0x10, 0x2C, 0, 0, 0xF8, 0x72, 0x6F, 0xBA, 0, 0, 0x80, 1, 0xB7, 0x52, 0, 0, 0, 0,
-                0x97, 0x6F, 0x20, 0, 0, 0, 0, 0, 0, 0, 0, 0, 0x28, 0xA2, 0xA0, 0x0C, 0, 1, 0xAF,
-                0xFF, 0, 2, 0xF1, 0xEA, 0x0E, 0x10, 1, 0x10, 0, 0, 0, 0, 0, 0, 0, 0, 0, 3, 0x98,
-                0x8A, 4, 0, 0x80, 0x10, 0x38, 0xC5, 0xF1, 0xEA, 0x0E, 0x10, 1, 0x10, 0, 0, 0, 0, 0,
-                0, 0, 0, 0, 3, 0x98, 0x8A, 4, 0, 0x80, 0x10, 0x38, 0xC5,
-            ],
-            Field::DirectoryEnd,
-            292,
-        ),
-    ];
-    for (first, unit, field, bit) in cases {
-        assert_eq!(rt;
-            fault(&rt, first, unit),
-            Some(Broken { field, bit }),
-            "{field:?} at {bit}"
-        );
+    for (first, lines) in behind {
+        let first = outer(&rt, first, None).ok().expect(&rt, "a first unit");
+        assert_named(&rt, rt.alloc(), first.major.as_ref(), lines);
     }
 }
 
