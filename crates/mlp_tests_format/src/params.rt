@@ -9,7 +9,9 @@ use mlp_params::{
     ChannelState, State, apply, read_params, read_params_into, read_restart, write_params,
     write_restart,
 };
-use mlp_syntax::{Broken, Field, Kind};
+use mlp_syntax::{Broken, Kind};
+use std::alloc::Global;
+use std::process::Abort;
 
 /// What is in force behind a restart and two blocks of parameters, which follow one another without anything between.
 fn after_two_blocks(kind: Kind, bytes: &[u8]) -> Result<State, Broken>
@@ -25,12 +27,19 @@ fn after_two_blocks(kind: Kind, bytes: &[u8]) -> Result<State, Broken>
     Ok(state)
 }
 
-fn fault(kind: Kind, bytes: &[u8]) -> Option<(Field, u32)>
-    requires { length bytes.now ≤ 8190 }
-{
-    match after_two_blocks(kind, bytes) {
-        Ok(_state) => None,
-        Err(broken) => Some((broken.field, broken.bit)),
+/// Whether the bytes of a line break first the rule of the line.
+fn is_named(alloc: Global, kind: Kind, line: &str) -> bool {
+    let (rule, rest) = line.split_once(' ').unwrap_or((line, ""));
+    let (bit, digits) = rest.split_once(' ').unwrap_or((rest, ""));
+    let Ok(bytes) = hex::decode(alloc, digits) else {
+        return false;
+    };
+    if bytes.len() > 8190 {
+        return false;
+    }
+    match after_two_blocks(kind, &bytes) {
+        Ok(_state) => false,
+        Err(broken) => broken.field.name() == rule && bit.parse() == Ok(broken.bit),
     }
 }
 
@@ -97,292 +106,55 @@ fn written_again(kind: Kind, bytes: &[u8]) -> Option<u32>
     }
 }
 
-#[test]
-fn names_the_first_fault_of_a_restart(rt: HostRuntime) {
-    assert_eq!(rt;
-        fault(
-            Kind::Fba,
-            &[
-                0xC7, 0xA0, 0x38, 0x40, 4, 0x40, 0, 0, 0, 0, 0, 0, 0, 0, 0, 0x0A, 0x68
-            ]
-        ),
-        Some((Field::RestartWord, 0))
-    );
-    assert_eq!(rt;
-        fault(
-            Kind::Fbb,
-            &[
-                0xC7, 0xAC, 0x38, 0x40, 4, 0x40, 0, 0, 0, 0, 0, 0, 0, 0, 0, 8, 0x10
-            ]
-        ),
-        Some((Field::RestartKind, 13))
-    );
-    assert_eq!(rt;
-        fault(
-            Kind::Fba,
-            &[
-                0xC7, 0xA8, 0x38, 0x40, 0x84, 0x40, 0, 0, 0, 0, 0, 0, 0, 0, 0, 0x0C, 0xB8
-            ]
-        ),
-        Some((Field::ChannelRange, 34))
-    );
-    assert_eq!(rt;
-        fault(
-            Kind::Fbb,
-            &[
-                0xC7, 0xA8, 0x38, 0x40, 0x19, 0x80, 0, 0, 0, 0, 0, 0, 0, 0, 0, 8, 0x41, 0x88, 0x28,
-                0xC1, 0xA0
-            ]
-        ),
-        Some((Field::ChannelRange, 34))
-    );
-    assert_eq!(rt;
-        fault(
-            Kind::Fba,
-            &[
-                0xC7, 0xA8, 0x38, 0x40, 4, 0x80, 0, 0, 0, 0, 0, 0, 0, 0, 0, 8, 0x4A, 0x20
-            ]
-        ),
-        Some((Field::MatrixChannel, 38))
-    );
-    assert_eq!(rt;
-        fault(
-            Kind::Fba,
-            &[
-                0xC7, 0xA8, 0x38, 0x40, 4, 0x40, 0, 0, 0, 0, 0, 0x80, 0, 0, 0, 0x0F, 0x48
-            ]
-        ),
-        Some((Field::DataCheck, 88))
-    );
-    assert_eq!(rt;
-        fault(
-            Kind::Fba,
-            &[
-                0xC7, 0xA8, 0x38, 0x40, 4, 0x40, 0, 0, 0, 0, 0, 0, 0, 0, 0, 0x16, 0x78
-            ]
-        ),
-        Some((Field::ChannelAssign, 119))
-    );
-    assert_eq!(rt;
-        fault(
-            Kind::Fba,
-            &[
-                0xC7, 0xA8, 0x38, 0x40, 4, 0x40, 0, 0, 0, 0, 0, 0, 0, 0, 2, 0x0C, 0x60
-            ]
-        ),
-        Some((Field::ChannelAssign, 119))
-    );
-    assert_eq!(rt;
-        fault(
-            Kind::Fba,
-            &[
-                0xC7, 0xA8, 0x38, 0x40, 4, 0x40, 0, 0, 0, 0, 0, 0, 0, 0, 0, 0x0E, 0x68
-            ]
-        ),
-        Some((Field::RestartCheck, 125))
-    );
-    assert_eq!(rt;
-        fault(
-            Kind::Fba,
-            &[0xC7, 0xA8, 0x38, 0x40, 4, 0x40, 0, 0, 0, 0, 0, 0, 0]
-        ),
-        Some((Field::SegmentShort, 97))
-    );
+/// TrueHD: the first rule that a restart and two blocks of parameters break, the bit that it names, and the bytes.
+const TRUEHD: [&str; 27] = [
+    "RestartWord 0 C7A0384004400000000000000000000A68",
+    "ChannelRange 34 C7A8384084400000000000000000000CB8",
+    "MatrixChannel 38 C7A838400480000000000000000000084A20",
+    "DataCheck 88 C7A8384004400000000000800000000F48",
+    "ChannelAssign 119 C7A8384004400000000000000000001678",
+    "ChannelAssign 119 C7A8384004400000000000000000020C60",
+    "RestartCheck 125 C7A8384004400000000000000000000E68",
+    "SegmentShort 97 C7A83840044000000000000000",
+    "BlockSize 135 C7A8384004400000000000000000000E6207",
+    "BlockSize 135 C7A8384004400000000000000000000E6229",
+    "MatrixCount 136 C7A8384004400000000000000000000E6190",
+    "MatrixDest 140 C7A8384004400000000000000000000E6112",
+    "MatrixFrac 144 C7A8384004400000000000000000000E6111F0",
+    "NoiseShift 153 C7AC384004400000000000000000000811110508",
+    "OutputShift 141 C7A8384004400000000000000000000E608C00",
+    "FilterOrder 140 C7A8384004400000000000000000000E6039",
+    "FilterOrder 141 C7A8384004400000000000000000000E602A80",
+    "CoeffBits 148 C7A8384004400000000000000000000E60310010",
+    "CoeffBits 148 C7A8384004400000000000000000000E60310880",
+    "CoeffBits 148 C7A8384004400000000000000000000E60310730",
+    "FirState 158 C7A8384004400000000000000000000E60310106",
+    "FilterSum 193 C7A8384004400000000000000000000E60350105554010550C00",
+    "FilterSum 210 C7A8384004400000000000000000000E60350105541802A0082A8600",
+    "FilterPrecision 181 C7A8384004400000000000000000000E60323105448410C0",
+    "FilterPrecision 198 C7A8384004400000000000000000000E60289082180323105060",
+    "HuffLsbs 144 C7A8384004400000000000000000000E6021C8",
+    "SegmentShort 144 C7A8384004400000000000000000000E6030",
+];
+
+/// The same of MLP.
+const MLP: [&str; 3] = [
+    "RestartKind 13 C7AC384004400000000000000000000810",
+    "ChannelRange 34 C7A83840198000000000000000000008418828C1A0",
+    "MatrixCount 136 C7A8384004400000000000000000000E6170",
+];
+
+/// Each line is of a stream that breaks first the rule of the line.
+fn assert_named(rt: &impl Abort, alloc: Global, kind: Kind, lines: &[&str]) {
+    for line in lines {
+        assert!(rt; is_named(alloc, kind, line), "{line}");
+    }
 }
 
 #[test]
-fn names_the_first_fault_of_matrices_and_sizes(rt: HostRuntime) {
-    assert_eq!(rt;
-        fault(
-            Kind::Fba,
-            &[
-                0xC7, 0xA8, 0x38, 0x40, 4, 0x40, 0, 0, 0, 0, 0, 0, 0, 0, 0, 0x0E, 0x62, 7
-            ]
-        ),
-        Some((Field::BlockSize, 135))
-    );
-    assert_eq!(rt;
-        fault(
-            Kind::Fba,
-            &[
-                0xC7, 0xA8, 0x38, 0x40, 4, 0x40, 0, 0, 0, 0, 0, 0, 0, 0, 0, 0x0E, 0x62, 0x29
-            ]
-        ),
-        Some((Field::BlockSize, 135))
-    );
-    assert_eq!(rt;
-        fault(
-            Kind::Fbb,
-            &[
-                0xC7, 0xA8, 0x38, 0x40, 4, 0x40, 0, 0, 0, 0, 0, 0, 0, 0, 0, 0x0E, 0x61, 0x70
-            ]
-        ),
-        Some((Field::MatrixCount, 136))
-    );
-    assert_eq!(rt;
-        fault(
-            Kind::Fba,
-            &[
-                0xC7, 0xA8, 0x38, 0x40, 4, 0x40, 0, 0, 0, 0, 0, 0, 0, 0, 0, 0x0E, 0x61, 0x90
-            ]
-        ),
-        Some((Field::MatrixCount, 136))
-    );
-    assert_eq!(rt;
-        fault(
-            Kind::Fba,
-            &[
-                0xC7, 0xA8, 0x38, 0x40, 4, 0x40, 0, 0, 0, 0, 0, 0, 0, 0, 0, 0x0E, 0x61, 0x12
-            ]
-        ),
-        Some((Field::MatrixDest, 140))
-    );
-    assert_eq!(rt;
-        fault(
-            Kind::Fba,
-            &[
-                0xC7, 0xA8, 0x38, 0x40, 4, 0x40, 0, 0, 0, 0, 0, 0, 0, 0, 0, 0x0E, 0x61, 0x11, 0xF0
-            ]
-        ),
-        Some((Field::MatrixFrac, 144))
-    );
-    assert_eq!(rt;
-        fault(
-            Kind::Fba,
-            &[
-                0xC7, 0xAC, 0x38, 0x40, 4, 0x40, 0, 0, 0, 0, 0, 0, 0, 0, 0, 8, 0x11, 0x11, 5, 8
-            ]
-        ),
-        Some((Field::NoiseShift, 153))
-    );
-    assert_eq!(rt;
-        fault(
-            Kind::Fba,
-            &[
-                0xC7, 0xA8, 0x38, 0x40, 4, 0x40, 0, 0, 0, 0, 0, 0, 0, 0, 0, 0x0E, 0x60, 0x8C, 0
-            ]
-        ),
-        Some((Field::OutputShift, 141))
-    );
-}
-
-#[test]
-fn names_the_first_fault_of_channels(rt: HostRuntime) {
-    assert_eq!(rt;
-        fault(
-            Kind::Fba,
-            &[
-                0xC7, 0xA8, 0x38, 0x40, 4, 0x40, 0, 0, 0, 0, 0, 0, 0, 0, 0, 0x0E, 0x60, 0x39
-            ]
-        ),
-        Some((Field::FilterOrder, 140))
-    );
-    assert_eq!(rt;
-        fault(
-            Kind::Fba,
-            &[
-                0xC7, 0xA8, 0x38, 0x40, 4, 0x40, 0, 0, 0, 0, 0, 0, 0, 0, 0, 0x0E, 0x60, 0x2A, 0x80
-            ]
-        ),
-        Some((Field::FilterOrder, 141))
-    );
-    assert_eq!(rt;
-        fault(
-            Kind::Fba,
-            &[
-                0xC7, 0xA8, 0x38, 0x40, 4, 0x40, 0, 0, 0, 0, 0, 0, 0, 0, 0, 0x0E, 0x60, 0x31, 0,
-                0x10
-            ]
-        ),
-        Some((Field::CoeffBits, 148))
-    );
-    assert_eq!(rt;
-        fault(
-            Kind::Fba,
-            &[
-                0xC7, 0xA8, 0x38, 0x40, 4, 0x40, 0, 0, 0, 0, 0, 0, 0, 0, 0, 0x0E, 0x60, 0x31, 8,
-                0x80
-            ]
-        ),
-        Some((Field::CoeffBits, 148))
-    );
-    assert_eq!(rt;
-        fault(
-            Kind::Fba,
-            &[
-                0xC7, 0xA8, 0x38, 0x40, 4, 0x40, 0, 0, 0, 0, 0, 0, 0, 0, 0, 0x0E, 0x60, 0x31, 7,
-                0x30
-            ]
-        ),
-        Some((Field::CoeffBits, 148))
-    );
-    assert_eq!(rt;
-        fault(
-            Kind::Fba,
-            &[
-                0xC7, 0xA8, 0x38, 0x40, 4, 0x40, 0, 0, 0, 0, 0, 0, 0, 0, 0, 0x0E, 0x60, 0x31, 1, 6
-            ]
-        ),
-        Some((Field::FirState, 158))
-    );
-    assert_eq!(rt;
-        fault(
-            Kind::Fba,
-            &[
-                0xC7, 0xA8, 0x38, 0x40, 4, 0x40, 0, 0, 0, 0, 0, 0, 0, 0, 0, 0x0E, 0x60, 0x35, 1, 5,
-                0x55, 0x40, 0x10, 0x55, 0x0C, 0
-            ]
-        ),
-        Some((Field::FilterSum, 193))
-    );
-    assert_eq!(rt;
-        fault(
-            Kind::Fba,
-            &[
-                0xC7, 0xA8, 0x38, 0x40, 4, 0x40, 0, 0, 0, 0, 0, 0, 0, 0, 0, 0x0E, 0x60, 0x35, 1, 5,
-                0x54, 0x18, 2, 0xA0, 8, 0x2A, 0x86, 0
-            ]
-        ),
-        Some((Field::FilterSum, 210))
-    );
-    assert_eq!(rt;
-        fault(
-            Kind::Fba,
-            &[
-                0xC7, 0xA8, 0x38, 0x40, 4, 0x40, 0, 0, 0, 0, 0, 0, 0, 0, 0, 0x0E, 0x60, 0x32, 0x31,
-                5, 0x44, 0x84, 0x10, 0xC0
-            ]
-        ),
-        Some((Field::FilterPrecision, 181))
-    );
-    assert_eq!(rt;
-        fault(
-            Kind::Fba,
-            &[
-                0xC7, 0xA8, 0x38, 0x40, 4, 0x40, 0, 0, 0, 0, 0, 0, 0, 0, 0, 0x0E, 0x60, 0x28, 0x90,
-                0x82, 0x18, 3, 0x23, 0x10, 0x50, 0x60
-            ]
-        ),
-        Some((Field::FilterPrecision, 198))
-    );
-    assert_eq!(rt;
-        fault(
-            Kind::Fba,
-            &[
-                0xC7, 0xA8, 0x38, 0x40, 4, 0x40, 0, 0, 0, 0, 0, 0, 0, 0, 0, 0x0E, 0x60, 0x21, 0xC8
-            ]
-        ),
-        Some((Field::HuffLsbs, 144))
-    );
-    assert_eq!(rt;
-        fault(
-            Kind::Fba,
-            &[
-                0xC7, 0xA8, 0x38, 0x40, 4, 0x40, 0, 0, 0, 0, 0, 0, 0, 0, 0, 0x0E, 0x60, 0x30
-            ]
-        ),
-        Some((Field::SegmentShort, 144))
-    );
+fn names_the_first_fault(rt: HostRuntime) {
+    assert_named(&rt, rt.alloc(), Kind::Fba, &TRUEHD);
+    assert_named(&rt, rt.alloc(), Kind::Fbb, &MLP);
 }
 
 #[test]

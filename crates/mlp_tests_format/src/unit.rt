@@ -50,6 +50,7 @@ fn is_named(rt: &impl Abort, alloc: Global, first: Option<&MajorSync>, line: &st
     }
 }
 
+/// Each line is of a unit that breaks first the rule of the line.
 fn assert_named(rt: &impl Abort, alloc: Global, first: Option<&MajorSync>, lines: &[&str]) {
     for line in lines {
         assert!(rt; is_named(rt, alloc, first, line), "{line}");
