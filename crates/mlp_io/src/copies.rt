@@ -2,7 +2,7 @@
 ghost use Rattle.std.specs.Prelude.{◌≡◌, ◌≤◌, ◌+◌, ◌-◌, min, length, take, ◌++◌};
 
 /// Copies bytes from the front, at most so many, and says how many.
-pub(crate) fn copy_front(rest: &[u8], most: usize, buf: &mut [u8]) -> usize
+pub fn copy_front(rest: &[u8], most: usize, buf: &mut [u8]) -> usize
     ensures count { result ≡ min most (min (length rest.now) (length buf.old)) }
     ensures taken { take result buf.new ≡ take result rest.now }
 {

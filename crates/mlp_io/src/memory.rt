@@ -1,5 +1,5 @@
 //! Sources and sinks in memory, whose calls come in pieces and fail where they are told to.
-ghost use Rattle.std.specs.Prelude.{◌≡◌, [], ◌≤◌, ◌<◌, ◌-◌, ◌^◌, ◌⊎◌, Some, min, length, take, drop, IfOk, OnErr, ◌↔◌, IsErr, Contains};
+ghost use Rattle.std.specs.Prelude.{◌≡◌, [], ◌≤◌, ◌<◌, ◌-◌, ◌⊎◌, Some, min, length, take, drop, IfOk, OnErr, ◌↔◌, IsErr, Contains};
 ghost use Rattle.std.specs.Io.KnownBytes.{ReadConsumes, WriteAppends};
 ghost use Rattle.mlp_io.specs.Causes.{HasCause, capped, capped_counted};
 ghost use Rattle.mlp_io.specs.Memory.{MemLeft, MemTaken, after_giving, after_failed_read, after_taking, after_failed_write};

@@ -1,5 +1,5 @@
 //! A sink in memory that grows.
-ghost use Rattle.std.specs.Prelude.{◌≡◌, [], ◌++◌, ◌≤◌, ◌<◌, ◌^◌, Some, length, IfOk, OnErr};
+ghost use Rattle.std.specs.Prelude.{◌≡◌, [], ◌≤◌, ◌<◌, Some, length, IfOk, OnErr};
 ghost use Rattle.std.specs.Io.KnownBytes.{WriteAppends};
 ghost use Rattle.mlp_io.specs.Causes.{HasCause, capped, next_count, capped_counted};
 ghost use Rattle.mlp_stream.specs.Growing.{Grown};

@@ -1,5 +1,5 @@
 //! A session: a command at work on a stream, one unit at a time.
-ghost use Rattle.std.specs.Prelude.{◌≡◌, ℕ, ◌<◌, ◌^◌, ◌↔◌, Bool, true, false, List, length, Result, IsTrue};
+ghost use Rattle.std.specs.Prelude.{◌≡◌, ℕ, ◌<◌, ◌↔◌, Bool, true, false, List, length, Result, IsTrue};
 ghost use Rattle.mlp_stream.specs.Moves.{Move, moved, said, IsSession};
 ghost use Rattle.mlp_io.specs.Limit.{limit};
 ghost use Rattle.mlp_stream.specs.declared.refusal.Refusal.{Refusal};

@@ -1,9 +1,9 @@
 //! A source over a slice.
-ghost use Rattle.std.specs.Prelude.{◌≡◌, ◌≤◌, List, ℕ, Some, min, length, take, drop, IfOk, IsOk, OnErr};
+ghost use Rattle.std.specs.Prelude.{◌≡◌, ◌≤◌, List, ℕ, Some, min, length, drop, IfOk, IsOk, OnErr};
 ghost use Rattle.std.specs.Io.KnownBytes.{ReadConsumes};
 ghost use Rattle.mlp_io.specs.Causes.{HasCause, zero_counted};
 
-use mlp_io::{Failed, Source};
+use mlp_io::{Failed, Source, copy_front};
 use std::marker::Model;
 
 /// Bytes that lie elsewhere, without a fault. To a contract it is the list of the bytes that are left.
@@ -32,16 +32,6 @@ impl<'a> SliceSource<'a> {
     }
 }
 
-/// Copies as many bytes from the front as there is room for, and says how many.
-fn copy_front(bytes: &[u8], buf: &mut [u8]) -> usize
-    ensures count { result ≡ min (length bytes.now) (length buf.old) }
-    ensures front { take result buf.new ≡ take result bytes.now }
-{
-    let count = bytes.len().min(buf.len());
-    buf[..count].copy_from_slice(&bytes[..count]);
-    count
-}
-
 impl<'a> Source for SliceSource<'a> {
     ghost left = { λ s. Some s };
 
@@ -57,7 +47,7 @@ impl<'a> Source for SliceSource<'a> {
         ensures steady { IsOk result }
         ensures count { IfOk result (λ n. n ≡ min (length self.old) (length buf.old)) }
     {
-        let count = copy_front(&self.bytes[self.at..], buf);
+        let count = copy_front(&self.bytes[self.at..], usize::MAX, buf);
         self.at += count;
         Ok(count)
     }

@@ -1,8 +1,7 @@
 //! The loop.
-ghost use Rattle.std.specs.Prelude.{◌≡◌, ℕ, ◌+◌, ◌<◌, ◌≤◌, ◌^◌, ◌≢◌, [], false, IsTrue, IsFalse, length, take, Ok, Err, IfOk, IfErr, OnOk, OnErr};
-ghost use Rattle.std.specs.Io.KnownBytes.{Appends};
-ghost use Rattle.mlp_io.specs.Causes.{HasCause, IsCause};
-ghost use Rattle.mlp_stream.specs.Moves.{Move, said};
+ghost use Rattle.std.specs.Prelude.{◌≡◌, ◌<◌, ◌≤◌, ◌≢◌, [], false, IsTrue, IsFalse, length, Ok, Err, IfOk, IfErr, OnOk};
+ghost use Rattle.mlp_io.specs.Causes.{IsCause};
+ghost use Rattle.mlp_stream.specs.Moves.{Move};
 ghost use Rattle.mlp_stream.specs.Sides.{side};
 ghost use Rattle.mlp_io.specs.Limit.{limit};
 ghost use Rattle.mlp_stream.specs.Sizes.{most_of_unit};

@@ -1,5 +1,5 @@
 //! A window on the input.
-ghost use Rattle.std.specs.Prelude.{◌≡◌, ℕ, ◌+◌, ◌-◌, ◌<◌, ◌≤◌, [], List, length, take, drop, OnOk, OnErr, IsErrOf, Err, IfErr, IsTrue, IsFalse};
+ghost use Rattle.std.specs.Prelude.{◌≡◌, ◌+◌, ◌-◌, ◌<◌, ◌≤◌, [], length, take, drop, OnOk, Err, IfErr, IsTrue, IsFalse};
 ghost use Rattle.mlp_io.specs.Causes.{HasCause};
 ghost use Rattle.mlp_stream.specs.Sides.{side};
 ghost use Rattle.mlp_io.specs.Limit.{limit};
