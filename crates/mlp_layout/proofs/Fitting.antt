@@ -22,10 +22,6 @@ times_fit (suc n) (b ∷ bs) e small = (small 0, times_fit n bs (omega arith) (�
 
 -- ---- a value that is there
 
-pub some_fits : {A : Type 0} (l : Layout A) (x : A) → (present true l).Fits (Some x) → l.Fits x
-unfolding present chosen seen
-some_fits l x fits = fits.0
-
 pub some_allowed : {A : Type 0} (l : Layout A) (x : A) → Allowed (present true l) (Some x) → Allowed l x
 unfolding present chosen seen
 some_allowed l x a = record { fits = a.fits.0; meets = a.meets }

@@ -1,7 +1,7 @@
 -- Each layout is lawful: what reading gives is there, and what is there is what reading gives.
 use Rattle.std.proofs.Common.{◌≡◌, ℕ, ◌+◌, ◌-◌, ◌^◌, ◌<◌, ◌≤◌, Bool, true, false, cond, eqb, leb, List, [], ◌∷◌, ◌++◌, length, take, drop, Result, Ok, Err, Option, Some, None, refl, sym, ap, subst, ◌∙◌, arith, ◌⊎◌, inl, inr}
 use Rattle.std.proofs.lemmas.List.{length-append, length-take, length-drop}
-use Rattle.std.proofs.lemmas.Bool.{leb-true, le-leb, lt-leb}
+use Rattle.std.proofs.lemmas.Bool.{leb-true, leb-false, le-leb, lt-leb}
 use Rattle.std.specs.Prelude.{◌&&◌}
 use Rattle.mlp_syntax.specs.declared.fault.Field.{Field}
 use Rattle.mlp_syntax.specs.declared.fault.Broken.{Broken}
@@ -52,9 +52,6 @@ has_one_reading {l} h all p le = record {
 
 -- ---- a number
 
-not_le : (a b : ℕ) → leb a b ≡ false → b < a
-not_le a b e = grind (arith, le-leb)
-
 number_there : (w : ℕ) (all : List Bool) (p : ℕ) (b : Bool) → leb (p + w) (length all) ≡ b → Sound (number_of w) all p (cond b (Ok (number (take w (drop p all)), p + w)) (Err (short p)))
 unfolding number_of
 number_there w all p true e =
@@ -69,7 +66,7 @@ number_there w all p true e =
       },
       omega (arith, length-bits w (number text)),
     )
-number_there w all p false e = (not_le (p + w) (length all) e, refl)
+number_there w all p false e = (leb-false (p + w) (length all) e, refl)
 
 pub number_of_is : (w : ℕ) → IsLayout (number_of w)
 unfolding number_of number_at
@@ -307,7 +304,7 @@ module _ {A : Type 0} (size : ℕ) (field : Field) (back : ℕ) {l : Layout A} (
   sized_there all p true e =
       let room : p + size ≤ length all = leb-true _ _ e in
       sized_passed all p room (l.read (take (p + size) all) p) (h.sound (take (p + size) all) p (omega (arith, length-take (p + size) all)))
-  sized_there all p false e = inl (not_le (p + size) (length all) e, refl)
+  sized_there all p false e = inl (leb-false (p + size) (length all) e, refl)
 
   pub sized_is : IsLayout (sized size field back l)
   unfolding sized

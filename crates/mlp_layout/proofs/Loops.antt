@@ -1,11 +1,11 @@
 -- Reading a series, and values up to a last one, as a loop does: it goes on, it stops at a fault, it is done. `total` is
 -- what reading the whole gives, and `front` the values that were read.
-use Rattle.std.proofs.Common.{◌≡◌, ℕ, zero, suc, ◌+◌, ◌-◌, ◌<◌, ◌≤◌, Bool, true, false, List, [], ◌∷◌, ◌++◌, Ok, Err, refl, sym, ap, ◌∙◌, arith}
+use Rattle.std.proofs.Common.{◌≡◌, ℕ, suc, ◌+◌, ◌-◌, ◌<◌, ◌≤◌, Bool, true, false, List, [], ◌∷◌, ◌++◌, Ok, Err, refl, sym, ap, ◌∙◌, arith}
 use Rattle.std.proofs.lemmas.List.{append-nil}
 use Rattle.mlp_syntax.specs.declared.fault.Field.{Field}
 use Rattle.mlp_syntax.specs.declared.fault.Broken.{Broken}
-use Rattle.mlp_layout.specs.Reading.{Read, broken, with_front}
-use Rattle.mlp_layout.specs.Layout.{Layout, item, made, never, part}
+use Rattle.mlp_layout.specs.Reading.{Read, with_front}
+use Rattle.mlp_layout.specs.Layout.{Layout, item, made, part}
 use Rattle.mlp_layout.specs.Combined.{flag, chosen, series, up_to_last}
 use Rattle.mlp_layout.proofs.Repeated.{regroup}
 
@@ -70,8 +70,3 @@ module _ {S A : Type 0} (value : S → Layout A) (after : S → A → S) (field 
           let one : with_front front ((up_to_last value after field (suc left) s).read all p) ≡ with_front (front ++ x ∷ []) ((up_to_last value after field left (after s x)).read all r) =
           rw (h, k) (regroup front x ((up_to_last value after field left (after s x)).read all r)) in
           sym one ∙ so_far
-
-  -- there were too many
-  pub too_many : (s : S) (front : List A) (all : List Bool) (p : ℕ) (total : Read (List A)) → ValuesContinue zero s front all p total → total ≡ Err (broken field p)
-  unfolding up_to_last never
-  too_many s front all p total so_far = sym so_far

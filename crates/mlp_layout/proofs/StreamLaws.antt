@@ -6,9 +6,10 @@ use Rattle.mlp_syntax.specs.declared.fault.Fault.{Fault}
 use Rattle.mlp_layout.specs.Reading.{Read, broken}
 use Rattle.mlp_layout.specs.Layout.{Found, Sound, behind, HasOneReading}
 use Rattle.mlp_layout.specs.Contents.{SoundIn, UnitFault}
-use Rattle.mlp_layout.specs.Streams.{UnitOf, Format, in_unit, spelling_of, rest_of, IsNext, OuterFails, UnitFails, read_unit, then_contents, with_outer, left_after, Begins, Units, UnitsFail, HasOneEnd, Has, Exists, Stream, Breaks, NoPres, HasOne, IsFormat}
+use Rattle.mlp_layout.specs.Streams.{UnitOf, Format, in_unit, spelling_of, rest_of, IsNext, OuterFails, UnitFails, read_unit, then_contents, with_outer}
+use Rattle.mlp_layout.specs.Streams.{left_after, Begins, Units, UnitsFail, HasOneEnd, Has, Exists, Stream, Breaks, NoPres, HasOne, IsFormat}
 use Rattle.mlp_layout.proofs.LayoutLaws.{has_one_reading}
-use Rattle.mlp_layout.proofs.Settled.{Settled, found_more, found_less, fails_more, fails_less}
+use Rattle.mlp_layout.proofs.Settled.{found_more}
 
 no_bits : (all : List Bool) → 0 < length all → all ≢ []
 no_bits all lt e = omega (arith, ap length e)
@@ -345,18 +346,3 @@ module _ {L O C : Type 0} (f : Format L O C) (is : IsFormat f) where
     next_more left all more u b.0,
     subst (λ (t : List Bool). Begins f (f.after left u) t us (rest ++ more)) (sym (rest_more left all more u b.0)) (begins_with_more (f.after left u) (rest_of f left all u) more us rest b.1),
   )
-
-  -- a unit whose outer part is settled is read the same
-  pub unit_settled : (left : L) (all more : List Bool) → Settled (f.outer left) all 0 → read_unit f left (all ++ more) ≡ read_unit f left all
-  unit_settled left all more s = ap (then_contents f left) (s.same more)
-
-  pub next_less : (left : L) (all more : List Bool) (u : UnitOf O C) → Settled (f.outer left) all 0 → IsNext f left (all ++ more) u → IsNext f left all u
-  next_less left all more u s next = record { outer = found_less (is.outer_is left) all 0 (omega arith) s more u.outer next.outer; contents = next.contents }
-
-  pub unit_fails_more : (left : L) (all more : List Bool) (e : UnitFault) → Settled (f.outer left) all 0 → UnitFails f left all e → UnitFails f left (all ++ more) e
-  unit_fails_more left all more e s (inl h) = inl (h.0, fails_more (is.outer_is left) all 0 (omega arith) s more (broken e.field e.bit) h.1)
-  unit_fails_more left all more e s (inr h) = inr (h.0, found_more (f.outer left) all more 0 h.0 h.1, h.2)
-
-  pub unit_fails_less : (left : L) (all more : List Bool) (e : UnitFault) → Settled (f.outer left) all 0 → UnitFails f left (all ++ more) e → UnitFails f left all e
-  unit_fails_less left all more e s (inl h) = inl (h.0, fails_less (is.outer_is left) all 0 (omega arith) s more (broken e.field e.bit) h.1)
-  unit_fails_less left all more e s (inr h) = inr (h.0, found_less (is.outer_is left) all 0 (omega arith) s more h.0 h.1, h.2)

@@ -1,7 +1,7 @@
 -- Tails and whole texts are lawful.
-use Rattle.std.proofs.Common.{◌≡◌, ◌≢◌, ℕ, ◌+◌, ◌-◌, ◌^◌, ◌<◌, ◌≤◌, Bool, true, false, cond, eqb, leb, List, ◌++◌, length, take, drop, Result, Ok, Err, Option, Some, None, refl, sym, ap, subst, ◌∙◌, arith, ◌⊎◌, inl, inr}
+use Rattle.std.proofs.Common.{◌≡◌, ◌≢◌, ℕ, ◌+◌, ◌-◌, ◌^◌, ◌<◌, ◌≤◌, Bool, true, false, cond, eqb, leb, List, ◌++◌, length, take, drop, Result, Ok, Err, Option, Some, None, refl, sym, ap, subst, ◌∙◌, arith, inl, inr}
 use Rattle.std.proofs.lemmas.List.{length-append, length-take, length-drop, take_all, take_at, drop_at, take-append-drop, drop-drop}
-use Rattle.std.proofs.lemmas.Bool.{eqb-true, le-leb, lt-leb, leb-true}
+use Rattle.std.proofs.lemmas.Bool.{eqb-true, eq-eqb, ne_eqb, le-leb, lt-leb, leb-true, leb-false}
 use Rattle.mlp_syntax.specs.declared.fault.Field.{Field}
 use Rattle.mlp_syntax.specs.declared.fault.Field.TheVariants as rule
 use Rattle.mlp_syntax.specs.declared.fault.Broken.{Broken}
@@ -10,7 +10,8 @@ use Rattle.mlp_bits.proofs.BitLists.{length-bits}
 use Rattle.mlp_bits.proofs.ReadBack.{number-of, bits-number}
 use Rattle.mlp_layout.specs.Reading.{Read, Stands, broken, short}
 use Rattle.mlp_layout.specs.Layout.{Layout, IsLayout, Found, behind, spelling_as, MeetsAs}
-use Rattle.mlp_layout.specs.Tails.{Tail, FoundTail, then_tail, part_tail, placed, ending, ending_read, Whole, FoundWhole, whole_text, EndJudge, end_read, then_judge, judged_at_end, byte_at, checked_part, parity_is, check_is, checked_read, checked_first, chosen_whole, SoundTail, IsTail, SoundWhole, IsWhole, HasOneText}
+use Rattle.mlp_layout.specs.Tails.{Tail, FoundTail, then_tail, part_tail, placed, ending, ending_read, Whole, FoundWhole, whole_text, EndJudge, end_read, then_judge, judged_at_end}
+use Rattle.mlp_layout.specs.Tails.{byte_at, checked_part, parity_is, check_is, checked_read, checked_first, chosen_whole, SoundTail, IsTail, SoundWhole, IsWhole}
 use Rattle.mlp_layout.proofs.LayoutLaws.{is_found, is_failed, is_within}
 use Rattle.mlp_layout.proofs.Standing.{Stands-append, Stands-front, Stands-back}
 
@@ -22,14 +23,8 @@ tail_bound : {A R : Type 0} (r : Read A) (f : A × ℕ → Result R Broken) (P :
 tail_bound (Ok x) f P ok err = ok x refl
 tail_bound (Err e) f P ok err = err e refl
 
-eqb-same : (m n : ℕ) → m ≡ n → eqb m n ≡ true
-eqb-same m n h = grind arith
-
 not_equal : (m n : ℕ) → eqb m n ≡ false → m ≢ n
-not_equal m n e h = let t = eqb-same m n h in absurd cc
-
-eqb-differ : (m n : ℕ) → m ≢ n → eqb m n ≡ false
-eqb-differ m n h = grind arith
+not_equal m n e h = let t = eq-eqb m n h in absurd cc
 
 -- ---- tails
 
@@ -113,12 +108,12 @@ module _ {T R : Type 0} (field : Field) (width : ℕ) (some : 0 < width) {last :
   end_again : (all : List Bool) (p : ℕ) (r : R) (o : Option T) → EndFound all p r o → ending_read field width last made all p ≡ Ok r
   unfolding EndFound
   end_again all p r None t =
-      let none : eqb (length all) p ≡ true = eqb-same _ _ (omega (arith, t.3)) in
+      let none : eqb (length all) p ≡ true = eq-eqb _ _ (omega (arith, t.3)) in
       rw none (ap done t.0.1)
   end_again all p r (Some x) t =
       let size = long x t.0.0 in
-      let some-left : eqb (length all) p ≡ false = eqb-differ _ _ (omega (arith, size, t.3)) in
-      let there : eqb (length all) (p + width) ≡ true = eqb-same _ _ (omega (arith, size, t.3)) in
+      let some-left : eqb (length all) p ≡ false = ne_eqb _ _ (omega (arith, size, t.3)) in
+      let there : eqb (length all) (p + width) ≡ true = eq-eqb _ _ (omega (arith, size, t.3)) in
       rw (some-left, there, h.found all p x (record { fits = t.0.0; meets = t.1; stands = t.2 })) (ap done t.0.1)
 
   pub ending_is : IsTail (ending field width last of_record made)
@@ -126,38 +121,13 @@ module _ {T R : Type 0} (field : Field) (width : ℕ) (some : 0 < width) {last :
   ending_is = record {
     sound = λ all p le. end_there all p (eqb (length all) p) (eqb (length all) (p + width)) refl refl;
     found = λ all p r t. end_again all p r (of_record r) (t.fits, t.meets, t.stands, t.ends);
-    failed = λ all p e f. let none : eqb (length all) p ≡ false = eqb-differ _ _ f.0 in elim f.1 [
-      | inl g ↦ let off : eqb (length all) (p + width) ≡ false = eqb-differ _ _ g.0 in rw (none, off, g.1) refl
-      | inr g ↦ let there : eqb (length all) (p + width) ≡ true = eqb-same _ _ g.0 in rw (none, there, h.failed all p e g.1) refl
+    failed = λ all p e f. let none : eqb (length all) p ≡ false = ne_eqb _ _ f.0 in elim f.1 [
+      | inl g ↦ let off : eqb (length all) (p + width) ≡ false = ne_eqb _ _ g.0 in rw (none, off, g.1) refl
+      | inr g ↦ let there : eqb (length all) (p + width) ≡ true = eq-eqb _ _ g.0 in rw (none, there, h.failed all p e g.1) refl
     ];
   }
 
 -- ---- whole texts
-
-module _ {R : Type 0} {w : Whole R} (h : IsWhole w) where
-  pub is_text : (all : List Bool) (r : R) → w.read all ≡ Ok r → FoundWhole w all r
-  is_text all r e = subst (SoundWhole w all) e (h.sound all)
-
-  pub is_text_fault : (all : List Bool) (e : Broken) → w.read all ≡ Err e → w.Fails all e
-  is_text_fault all d e = subst (SoundWhole w all) e (h.sound all)
-
-  some_text : (all : List Bool) (r : Result R Broken) → SoundWhole w all r → ((r : R) × FoundWhole w all r) ⊎ ((e : Broken) × w.Fails all e)
-  some_text all (Ok r) s = inl (r, s)
-  some_text all (Err e) s = inr (e, s)
-
-  ok_is : (x y : R) → done x ≡ done y → x ≡ y
-  ok_is x y e = cc
-
-  err_is : (d e : Broken) → (let r : Result R Broken = Err d in r ≡ Err e) → d ≡ e
-  err_is d e h = cc
-
-  pub has_one_text : (all : List Bool) → HasOneText w all
-  has_one_text all = record {
-    some = some_text all (w.read all) (h.sound all);
-    not_both = λ r e f g. let a = h.found all r f in let b = h.failed all e g in absurd cc;
-    one_value = λ r s f g. ok_is r s (sym (h.found all r f) ∙ h.found all s g);
-    one_fault = λ d e f g. err_is d e (sym (h.failed all d f) ∙ h.failed all e g);
-  }
 
 -- what stands at the first place and ends where the bits end is all of them
 all_of : (all text : List Bool) → Stands all 0 text → length all ≡ 0 + length text → all ≡ text
@@ -233,9 +203,6 @@ two_bytes all size =
     rw (byte_there all n (omega arith), byte_there all (length all - 8) (omega arith), end, ← last, two, one) refl
 
 module _ (text : List Bool) (p c : ℕ) (small-p : p < 2 ^ 8) (small-c : c < 2 ^ 8) where
-  with_bytes : List Bool
-  with_bytes = text ++ (bits 8 p ++ bits 8 c)
-
   bytes_length : length (text ++ (bits 8 p ++ bits 8 c)) ≡ length text + 16
   bytes_length = omega (arith, length-append text (bits 8 p ++ bits 8 c), length-append (bits 8 p) (bits 8 c), length-bits 8 p, length-bits 8 c)
 
@@ -256,9 +223,6 @@ module _ (text : List Bool) (p c : ℕ) (small-p : p < 2 ^ 8) (small-c : c < 2 ^
       let all-c : take 8 (bits 8 c) ≡ bits 8 c = take_all 8 (bits 8 c) (omega (arith, length-bits 8 c)) in
       rw (n, ← split, drop_at text (bits 8 p ++ bits 8 c) (length text) refl, drop_at (bits 8 p) (bits 8 c) 8 (length-bits 8 p), all-c) (number-of 8 c small-c)
 
-not_le : (a b : ℕ) → leb a b ≡ false → b < a
-not_le a b e = grind (arith, le-leb)
-
 module _ {R : Type 0} (parity check : List Bool → ℕ) {w : Whole R}
     (small-p : (b : List Bool) → parity b < 2 ^ 8) (small-c : (b : List Bool) → check b < 2 ^ 8) (long : (r : R) → w.Fits r → 16 ≤ length (w.spelling r)) (h : IsWhole w) where
   text_there : (all : List Bool) → 32 ≤ length all → parity_is parity all ≡ true → check_is check all ≡ true → (x : Result R Broken) → SoundWhole w (checked_part all) x → SoundWhole (checked_first parity check w) all x
@@ -274,7 +238,7 @@ module _ {R : Type 0} (parity check : List Bool → ℕ) {w : Whole R}
   checked_there : (all : List Bool) (l p c : Bool) → leb 32 (length all) ≡ l → parity_is parity all ≡ p → check_is check all ≡ c
       → SoundWhole (checked_first parity check w) all (cond l (cond p (cond c (w.read (checked_part all)) (Err (broken rule.SegmentCheck (length all - 8)))) (Err (broken rule.SegmentParity (length all - 16)))) (Err (short 0)))
   unfolding checked_first
-  checked_there all false p c is-l is-p is-c = inl (not_le 32 (length all) is-l, refl)
+  checked_there all false p c is-l is-p is-c = inl (leb-false 32 (length all) is-l, refl)
   checked_there all true false c is-l is-p is-c = inr (inl (leb-true 32 (length all) is-l, is-p, refl))
   checked_there all true true false is-l is-p is-c = inr (inr (inl (leb-true 32 (length all) is-l, is-p, is-c, refl)))
   checked_there all true true true is-l is-p is-c = text_there all (leb-true 32 (length all) is-l) is-p is-c (w.read (checked_part all)) (h.sound (checked_part all))
@@ -287,8 +251,8 @@ module _ {R : Type 0} (parity check : List Bool → ℕ) {w : Whole R}
       let all = text ++ (bits 8 p ++ bits 8 c) in
       let size : leb 32 (length all) ≡ true = le-leb _ _ (omega (arith, bytes_length text p c (small-p text) (small-c text), long r fits)) in
       let part-is = bytes_text text p c (small-p text) (small-c text) in
-      let is-p : parity_is parity all ≡ true = eqb-same _ _ (bytes_parity text p c (small-p text) (small-c text) ∙ ap parity (sym part-is)) in
-      let is-c : check_is check all ≡ true = eqb-same _ _ (bytes_check text p c (small-p text) (small-c text) ∙ ap check (sym part-is)) in
+      let is-p : parity_is parity all ≡ true = eq-eqb _ _ (bytes_parity text p c (small-p text) (small-c text) ∙ ap parity (sym part-is)) in
+      let is-c : check_is check all ≡ true = eq-eqb _ _ (bytes_check text p c (small-p text) (small-c text) ∙ ap check (sym part-is)) in
       let read : w.read (checked_part all) ≡ Ok r = ap w.read part-is ∙ h.found text r (record { fits = fits; meets = meets; text_is = refl }) in
       rw (size, is-p, is-c) read
 

@@ -152,7 +152,7 @@ part first of_record rest = record {
 -- ---- lists
 
 -- the first item of a list, before the others, which may depend on it
-abbrev pub cons_spelling : {A : Type 0} → (A → List Bool) → (A → List A → List Bool) → List A → List Bool
+abbrev cons_spelling : {A : Type 0} → (A → List Bool) → (A → List A → List Bool) → List A → List Bool
 cons_spelling first rest [] = []
 cons_spelling first rest (x ∷ xs) = first x ++ rest x xs
 

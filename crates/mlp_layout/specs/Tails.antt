@@ -142,7 +142,7 @@ checked_read parity check w all =
     else Err (short 0)
 
 -- the fault of the two bytes or of fewer than four, or of the text before them
-abbrev pub CheckedFails : {R : Type 0} → (List Bool → ℕ)
+abbrev CheckedFails : {R : Type 0} → (List Bool → ℕ)
     → (List Bool → ℕ) → Whole R → List Bool → Broken → Type 0
 CheckedFails parity check w all e =
     ((length all < 32) × (e ≡ short 0)) ⊎
@@ -186,10 +186,3 @@ pub record IsWhole {R : Type 0} (w : Whole R) : Type 0 where
   pub sound : (all : List Bool) → SoundWhole w all (w.read all)
   pub found : (all : List Bool) (r : R) → FoundWhole w all r → w.read all ≡ Ok r
   pub failed : (all : List Bool) (e : Broken) → w.Fails all e → w.read all ≡ Err e
-
--- so bits have one value or one fault, and not both
-pub record HasOneText {R : Type 0} (w : Whole R) (all : List Bool) : Type 0 where
-  pub some : ((r : R) × FoundWhole w all r) ⊎ ((e : Broken) × w.Fails all e)
-  pub not_both : (r : R) (e : Broken) → FoundWhole w all r → w.Fails all e → ⊥
-  pub one_value : (r s : R) → FoundWhole w all r → FoundWhole w all s → r ≡ s
-  pub one_fault : (d e : Broken) → w.Fails all d → w.Fails all e → d ≡ e

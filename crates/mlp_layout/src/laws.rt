@@ -1,5 +1,5 @@
 //! What holds of the simplest layouts. Of the others it is a lemma of `proofs/`, since they are over any values.
-ghost use Rattle.std.specs.Prelude.{ℕ, ◌≤◌};
+ghost use Rattle.std.specs.Prelude.{ℕ};
 ghost use Rattle.mlp_layout.specs.Layout.{IsLayout, number_of};
 ghost use Rattle.mlp_layout.specs.Combined.{flag, signed_of};
 

@@ -2,7 +2,7 @@
 //!
 //! Each call appends the text of its value, and answers `Full` exactly where the bits would pass 65,520; then the
 //! writer has its old bits and perhaps a part of the new ones, and isn't used again.
-ghost use Rattle.std.specs.Prelude.{◌≡◌, ◌≤◌, ◌<◌, ◌^◌, ℤ, Some};
+ghost use Rattle.std.specs.Prelude.{◌≡◌, ◌≤◌, ◌<◌, ◌^◌, Some};
 ghost use Rattle.std.specs.List.{AllByRecursion, flat_map};
 ghost use Rattle.mlp_layout.specs.Layout.{number_of};
 ghost use Rattle.mlp_layout.specs.Combined.{flag, signed_of};
