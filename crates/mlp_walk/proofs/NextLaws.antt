@@ -15,6 +15,12 @@ use Rattle.mlp_walk.specs.declared.refusal.Refusal.{Refusal}
 use Rattle.mlp_walk.specs.declared.refusal.Refusal.TheVariants as refused
 use Rattle.mlp_walk.specs.Next.{Taken, fault_of, asked, numbered, gated, next_of, TakesBytes}
 
+pub some_is : (j k : ℕ) → Some j ≡ Some k → j ≡ k
+some_is j k e = cc
+
+pub none_some : (k : ℕ) → None ≡ Some k → ⊥
+none_some k e = cc
+
 module _ {L O C : Type 0} (f : Format L O C) (is : IsFormat f) where
   abbrev Answer : Type 0
   Answer = Result (Taken O C) Refusal
@@ -55,12 +61,6 @@ module _ {L O C : Type 0} (f : Format L O C) (is : IsFormat f) where
   record IsOpen (w : Option ℕ) (o : Read O) (unit : Answer) : Type 0 where
     answer : gated f w o unit ≡ unit
     tells : (k : ℕ) → w ≡ Some k → Tells k o
-
-  some_is : (j k : ℕ) → Some j ≡ Some k → j ≡ k
-  some_is j k e = cc
-
-  none_some : (k : ℕ) → None ≡ Some k → ⊥
-  none_some k e = cc
 
   gate : (w : Option ℕ) (o : Read O) (unit : Answer) → IsShut w o unit ⊎ IsOpen w o unit
   gate None o unit = inr (record { answer = refl; tells = λ k e. absurd (none_some k e) })

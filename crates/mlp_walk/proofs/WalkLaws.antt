@@ -13,7 +13,7 @@ use Rattle.mlp_walk.specs.declared.refusal.Refusal.{Refusal}
 use Rattle.mlp_walk.specs.declared.refusal.Refusal.TheVariants as refused
 use Rattle.mlp_walk.specs.Next.{Taken, fault_of, asked, next_of, TakesBytes}
 use Rattle.mlp_walk.specs.Meaning.{Told, AreUnits, Fail, Lack, HasTaken, Means, NextMeans, EndMeans, IsOneWalk}
-use Rattle.mlp_walk.proofs.NextLaws.{FaultFrom, fault_from, NoneFrom, none_from, told_from, next_found, next_failed, next_lacks, from_unit, begins_on}
+use Rattle.mlp_walk.proofs.NextLaws.{some_is, none_some, FaultFrom, fault_from, NoneFrom, none_from, told_from, next_found, next_failed, next_lacks, from_unit, begins_on}
 
 pub no_bits : bits_of [] ≡ []
 unfolding bits_of
@@ -21,9 +21,6 @@ no_bits = refl
 
 asked_later : (wanted : Option ℕ) (n : ℕ) → asked wanted (suc n) ≡ None
 asked_later wanted n = ap (λ (c : Bool). cond c wanted None) (ne_eqb (suc n) 0 (λ e. omega arith))
-
-none_some : (k : ℕ) → None ≡ Some k → ⊥
-none_some k e = cc
 
 module _ {L O C : Type 0} (f : Format L O C) (is : IsFormat f) (start : L) where
   pub taken_none : (wanted : Option ℕ) (bytes : List ℕ) → HasTaken f start wanted bytes [] bytes
@@ -193,9 +190,6 @@ module _ {L O C : Type 0} (f : Format L O C) (is : IsFormat f) (start : L) where
 
   told_enough : (k : ℕ) (all : List Bool) → Exists f start k all → (have : ℕ) → Has f start all have → have ≤ k → ⊥
   told_enough k all told have has few = let same = one_has f is start all told.0 have told.1 has in omega (arith, told.2)
-
-  some_is : (j k : ℕ) → Some j ≡ Some k → j ≡ k
-  some_is j k e = cc
 
   exists_at : (k j : ℕ) (bytes rest : List ℕ) → Begins f start (bits_of bytes) [] (bits_of rest) → Some k ≡ Some j → Exists f start k (bits_of bytes) → Exists f start j (bits_of rest)
   exists_at k j bytes rest b e told =
