@@ -1,6 +1,6 @@
 -- What passes the tests is a book.
 use Rattle.std.proofs.Common.{◌≡◌, ℕ, zero, suc, ◌+◌, ◌<◌, ◌≤◌, Bool, true, false, cond, eqb, leb, not, List, [], ◌∷◌, ◌++◌, length, take, Option, Some, None, refl, sym, ap, subst, ◌∙◌, arith, ◌⊎◌, inl, inr}
-use Rattle.std.specs.Prelude.{◌&&◌, ◌||◌, is_some}
+use Rattle.std.specs.Prelude.{◌||◌, is_some}
 use Rattle.std.proofs.lemmas.Bool.{and_parts, leb-true, eqb-true, cases_lt}
 use Rattle.mlp_bits.specs.Bits.{bits}
 use Rattle.mlp_books.specs.Books.{code_of, begins, find_symbol, all_below, is_free, is_wide, same_bool, is_whole, Passes, IsNone, IsBook}

@@ -1,4 +1,4 @@
-use Rattle.std.proofs.Common.{◌≡◌, ◌/◌, ◌%◌, ◌≤◌, length, refl, arith}
+use Rattle.std.proofs.Common.{◌%◌, ◌≤◌, length, refl, arith}
 use Rattle.mlp_bits.specs.Cursor.{left}
 use Rattle.mlp_books.proofs.BookLaws.{book_is}
 use Rattle.mlp_books.proofs.SymbolLaws.{reads_none, reads_symbol, reads_cut}
