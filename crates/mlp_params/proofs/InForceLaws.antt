@@ -11,10 +11,7 @@ use Rattle.mlp_params.specs.declared.state.ChannelState.{ChannelState}
 use Rattle.mlp_params.specs.InForce.{in_force, channel_in_force, restarted_channel, latest, of_channel, stateless}
 use Rattle.mlp_params.specs.Filters.{absent}
 use Rattle.mlp_params.specs.Applied.{applied, channel_applied, channels_applied}
-
-nothing_applied : (ss : List ChannelState) → channels_applied ss [] ≡ ss
-nothing_applied [] = refl
-nothing_applied (s ∷ ss) = refl
+use Rattle.mlp_params.proofs.ApplyLaws.{nothing_applied}
 
 first_applied : (s : ChannelState) (later : List ChannelState) (given : List (Option ChannelParams)) → channels_applied (s ∷ later) given ≡ channel_applied s (slice_index_or given 0 None) ∷ channels_applied later (drop 1 given)
 first_applied s later [] = ap (λ (ss : List ChannelState). s ∷ ss) (sym (nothing_applied later))

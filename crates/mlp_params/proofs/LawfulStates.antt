@@ -56,7 +56,7 @@ pub absent_allowed : (n : ℕ) → Allowed (filter n false) absent
 unfolding filter part ruled number_of chosen made
 absent_allowed n = record { fits = (omega arith, refl); meets = ((tt, rw (le-leb 0 n (omega arith)) refl), tt) }
 
-restarted_is : IsChannelState restarted_channel
+pub restarted_is : IsChannelState restarted_channel
 unfolding signed_of seen number_of
 restarted_is = record {
   fir = absent_allowed 8;

@@ -1,6 +1,6 @@
 -- Parameters that meet the rules leave a state that does.
 use Rattle.std.proofs.Common.{◌≡◌, ℕ, zero, suc, ◌+◌, ◌<◌, ◌≤◌, Bool, true, false, leb, eqb, List, [], ◌∷◌, length, take, drop, Option, Some, None, ℤ, refl, sym, ap, subst, arith}
-use Rattle.std.specs.Prelude.{All, unwrap_or, option_map, ◌||◌, not, is_some}
+use Rattle.std.specs.Prelude.{All, unwrap_or, option_map, ◌||◌}
 use Rattle.std.proofs.lemmas.Bool.{leb-true}
 use Rattle.std.proofs.Math.Dec.{eqb-suc-zero}
 use Rattle.std.proofs.lemmas.List.{length-append, length-take, length-drop}
@@ -15,9 +15,9 @@ use Rattle.mlp_params.specs.declared.state.ChannelState.{ChannelState}
 use Rattle.mlp_params.specs.declared.state.State.{State}
 use Rattle.mlp_bits.specs.Bits.{bit}
 use Rattle.mlp_layout.specs.Layout.{Layout, number_of, seen, ruled, tested, made, part, item}
-use Rattle.mlp_layout.specs.Combined.{must, flag, signed_of, chosen, present, group, times, listed, each}
+use Rattle.mlp_layout.specs.Combined.{flag, signed_of, chosen, present, group, listed, each}
 use Rattle.mlp_layout.specs.Allowed.{Allowed}
-use Rattle.mlp_params.specs.Filters.{order_of, absent, widths, filter_state, filter, behind_order}
+use Rattle.mlp_params.specs.Filters.{order_of, absent, filter, behind_order}
 use Rattle.mlp_params.specs.Matrices.{rows}
 use Rattle.mlp_params.specs.Parameters.{block_size_of, output_shift, one_precision, filters_tested, channel, groups, params}
 use Rattle.mlp_params.specs.InForce.{stateless}

@@ -1,5 +1,5 @@
 -- The restart header is a layout.
-use Rattle.std.proofs.Common.{◌≡◌, ℕ, ◌≤◌, Bool, List, length, Result, Ok, Err, IfOk, OnOk}
+use Rattle.std.proofs.Common.{◌≡◌, ℕ, ◌≤◌, Bool, List, length, Result, Ok, Err, OnOk}
 use Rattle.mlp_syntax.specs.declared.major.Kind.{Kind}
 use Rattle.mlp_syntax.specs.declared.fault.Broken.{Broken}
 use Rattle.mlp_bits.specs.Cursor.{Cursor}

@@ -2,12 +2,12 @@
 use Rattle.std.proofs.Common.{◌≡◌, ◌≢◌, ℕ, ◌+◌, ◌<◌, ◌≤◌, ◌^◌, eqb, Bool, true, false, List, [], ◌∷◌, ◌++◌, refl, sym, ap, subst, ◌∙◌, append_assoc, arith}
 use Rattle.std.proofs.lemmas.List.{append-nil}
 use Rattle.std.proofs.lemmas.Bool.{ne_eqb, eq-eqb, leb-true}
-use Rattle.std.specs.Prelude.{◌||◌, not, is_some}
+use Rattle.std.specs.Prelude.{is_some}
 use Rattle.mlp_syntax.specs.declared.fault.Field.TheVariants as rule
 use Rattle.mlp_syntax.specs.declared.params.Filter.{Filter}
 use Rattle.mlp_bits.specs.Bits.{bits}
 use Rattle.mlp_layout.specs.Layout.{Layout, number_of, ruled, part, made}
-use Rattle.mlp_layout.specs.Combined.{must, flag, signed_of, chosen, present, group, times}
+use Rattle.mlp_layout.specs.Combined.{flag, signed_of, chosen, present, group, times}
 use Rattle.mlp_params.specs.Filters.{order_of, absent, widths, filter_state, filter, behind_order}
 use Rattle.mlp_layout.specs.Allowed.{Allowed}
 use Rattle.mlp_layout.proofs.RuleReading.{rule_holds}

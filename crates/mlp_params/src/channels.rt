@@ -1,11 +1,11 @@
 //! Reading the parameters of channels. Source: the MLP substream syntax as publicly documented.
 #![tactic(auto, unfolding(mlp_layout::specs::Layout::part, mlp_layout::specs::Layout::seen, mlp_layout::specs::Layout::ruled, mlp_layout::specs::Layout::tested, mlp_layout::specs::Layout::made, mlp_layout::specs::Combined::chosen, mlp_layout::specs::Combined::present, mlp_layout::specs::Combined::group, crate::specs::Parameters::channel, crate::specs::Parameters::filters_tested))]
 
-ghost use Rattle.std.specs.Prelude.{◌≡◌, ◌+◌, ◌≤◌, ◌<◌, IsTrue, true, false, length, unwrap_or};
+ghost use Rattle.std.specs.Prelude.{◌≡◌, ◌+◌, ◌≤◌, ◌<◌, true, false, length, unwrap_or};
 ghost use Rattle.mlp_bits.specs.Bits.{bit};
 ghost use Rattle.mlp_layout.specs.Reading.{Gives};
 ghost use Rattle.mlp_layout.specs.Combined.{signed_of, group, each};
-ghost use Rattle.mlp_params.specs.Filters.{order_of, filter};
+ghost use Rattle.mlp_params.specs.Filters.{filter};
 ghost use Rattle.mlp_params.specs.Parameters.{one_precision, channel};
 
 use crate::filters::{read_filter, read_signed};

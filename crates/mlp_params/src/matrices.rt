@@ -2,7 +2,6 @@
 ghost use Rattle.std.specs.Prelude.{◌≡◌, ◌+◌, ◌≤◌, ◌<◌, true};
 ghost use Rattle.mlp_layout.specs.Reading.{Gives};
 ghost use Rattle.mlp_layout.specs.Combined.{signed_of, times, group};
-ghost use Rattle.mlp_bits.specs.Signed.{HasBits};
 ghost use Rattle.mlp_params.specs.Matrices.{matrix_limit, sources, noise_shift_of, row, rows};
 
 use crate::filters::read_signed;

@@ -1,12 +1,11 @@
 //! Reading the decoding parameters of a block. Source: the MLP substream syntax as publicly documented.
 #![tactic(auto, unfolding(mlp_layout::specs::Layout::part, mlp_layout::specs::Layout::seen, mlp_layout::specs::Layout::ruled, mlp_layout::specs::Layout::made, mlp_layout::specs::Combined::chosen, mlp_layout::specs::Combined::present, mlp_layout::specs::Combined::group, mlp_layout::specs::Combined::listed, crate::specs::Parameters::groups, crate::specs::Parameters::params))]
 
-ghost use Rattle.std.specs.Prelude.{◌≡◌, ◌+◌, ◌≤◌, ◌<◌, IfOk, OnOk, Option, ℕ, drop, true, unwrap_or};
+ghost use Rattle.std.specs.Prelude.{◌≡◌, ◌+◌, ◌≤◌, ◌<◌, IfOk, OnOk, Option, drop, unwrap_or};
 ghost use Rattle.arrayvec.specs.ArrayVec.{array_vec_len};
-ghost use Rattle.mlp_bits.specs.Bits.{bit};
 ghost use Rattle.mlp_layout.specs.Reading.{Gives};
 ghost use Rattle.mlp_layout.specs.Layout.{number_of};
-ghost use Rattle.mlp_layout.specs.Combined.{group, times, listed, each};
+ghost use Rattle.mlp_layout.specs.Combined.{group, times, listed};
 ghost use Rattle.mlp_layout.specs.Allowed.{Allowed};
 ghost use Rattle.mlp_params.specs.Matrices.{rows};
 ghost use Rattle.mlp_params.specs.Parameters.{block_size_of, output_shift, given_channels, groups, params};

@@ -1,5 +1,5 @@
 //! Writing the parameters of channels.
-ghost use Rattle.std.specs.Prelude.{◌≡◌, ◌≤◌, ◌<◌, ℕ, List, length, All, IfSome, true, false};
+ghost use Rattle.std.specs.Prelude.{◌≡◌, ◌<◌, List, length, All, IfSome, true, false};
 ghost use Rattle.mlp_layout.specs.Combined.{signed_of, group, each};
 ghost use Rattle.mlp_layout.specs.Writing.{Writes};
 ghost use Rattle.mlp_params.specs.declared.state.ChannelState.{ChannelState};

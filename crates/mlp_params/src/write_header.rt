@@ -1,5 +1,5 @@
 //! Writing the restart header.
-ghost use Rattle.std.specs.Prelude.{◌≡◌, ◌≤◌, ◌<◌};
+ghost use Rattle.std.specs.Prelude.{◌<◌};
 ghost use Rattle.mlp_layout.specs.Writing.{Writes};
 ghost use Rattle.mlp_syntax.specs.declared.major.Kind.{Kind};
 ghost use Rattle.mlp_params.specs.RestartHeader.{restart, restart_fields};

@@ -1,5 +1,5 @@
 //! Writing matrices.
-ghost use Rattle.std.specs.Prelude.{◌≡◌, ◌≤◌, ◌<◌, ℕ, All, length, true};
+ghost use Rattle.std.specs.Prelude.{◌≤◌, ◌<◌, ℕ, All, length, true};
 ghost use Rattle.mlp_layout.specs.Combined.{signed_of, group, times};
 ghost use Rattle.mlp_layout.specs.Writing.{Writes};
 ghost use Rattle.mlp_syntax.specs.declared.major.Kind.{Kind};

@@ -1,5 +1,5 @@
 //! Writing the decoding parameters of a block.
-ghost use Rattle.std.specs.Prelude.{◌≡◌, ◌≤◌, ◌<◌, ℕ, unwrap_or};
+ghost use Rattle.std.specs.Prelude.{◌≡◌, ◌<◌, ℕ, unwrap_or};
 ghost use Rattle.mlp_layout.specs.Layout.{number_of};
 ghost use Rattle.mlp_layout.specs.Combined.{group, listed};
 ghost use Rattle.mlp_layout.specs.Writing.{Writes};

@@ -1,25 +1,9 @@
-use Rattle.std.proofs.Common.{ℤ, arith, refl, ap, sym, subst, ◌∙◌, pos}
+use Rattle.std.proofs.Common.{ap, sym, subst, ◌∙◌, pos}
 use Rattle.mlp_syntax.specs.declared.params.Filter.{Filter}
-use Rattle.mlp_layout.specs.Layout.{number_of, seen}
-use Rattle.mlp_layout.specs.Combined.{signed_of}
-use Rattle.mlp_params.specs.declared.state.ChannelState.{ChannelState}
 use Rattle.mlp_params.specs.InForce.{restarted_channel}
 use Rattle.mlp_params.specs.States.{IsChannelState}
-use Rattle.mlp_params.proofs.LawfulStates.{absent_allowed}
+use Rattle.mlp_params.proofs.LawfulStates.{restarted_is}
 use Rattle.mlp_tests_signal.proofs.search.restarted.Goals as goal
-
-restarted_is : IsChannelState restarted_channel
-unfolding signed_of seen number_of
-restarted_is = record {
-  fir = absent_allowed 8;
-  iir = absent_allowed 4;
-  sum = omega arith;
-  precision = refl;
-  offset = record { fits = (omega arith, refl); meets = tt };
-  book = omega arith;
-  low = omega arith;
-  book_low = λ h. absurd (omega arith);
-}
 
 pub returns-clause-value : goal.returns-clause-value
 returns-clause-value c =
