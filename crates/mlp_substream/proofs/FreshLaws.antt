@@ -1,19 +1,19 @@
 -- Behind a restart nothing is as it was before it.
-use Rattle.std.proofs.Common.{◌≡◌, ℕ, zero, suc, Bool, true, false, List, [], ◌∷◌, take, Option, Some, None, refl, ◌∙◌}
+use Rattle.std.proofs.Common.{◌≡◌, ℕ, Bool, true, List, [], ◌∷◌, take, Option, Some, None, refl, ◌∙◌}
 use Rattle.std.specs.Prelude.{is_some, IsTrue}
 use Rattle.mlp_syntax.specs.declared.restart.Restart.{Restart}
 use Rattle.mlp_syntax.specs.declared.params.Params.{Params}
 use Rattle.mlp_syntax.specs.declared.segment.BlockHead.{BlockHead}
 use Rattle.mlp_syntax.specs.declared.segment.FrameCode.{FrameCode}
 use Rattle.mlp_syntax.specs.declared.segment.Segment.{Segment}
-use Rattle.mlp_layout.specs.Layout.{part, made, tested, never, item, seen}
-use Rattle.mlp_layout.specs.Combined.{chosen, present, up_to_last}
+use Rattle.mlp_layout.specs.Layout.{part, made, tested, item}
+use Rattle.mlp_layout.specs.Combined.{up_to_last}
 use Rattle.mlp_params.specs.declared.state.State.{State}
 use Rattle.mlp_layout.specs.Allowed.{Allowed}
 use Rattle.mlp_substream.specs.declared.known.Place.{Place}
 use Rattle.mlp_substream.specs.declared.known.Known.{Known}
-use Rattle.mlp_substream.specs.Blocks.{against, context_of, first_context, Block, block, head, behind_flags, force_after}
-use Rattle.mlp_substream.specs.Segment.{nested, end_rules, blocks_from, segment, IsAllowed}
+use Rattle.mlp_substream.specs.Blocks.{context_of, first_context, Block, block, head, behind_flags, force_after}
+use Rattle.mlp_substream.specs.Segment.{nested, segment, IsAllowed}
 use Rattle.mlp_substream.proofs.SegmentChanges.{Weaker, weaker_leads, blocks_in, segment_same, segment_allowed}
 use Rattle.mlp_substream.proofs.WritingParts.{block_parts}
 use Rattle.mlp_substream.proofs.PlayableLaws.{head_due}

@@ -1,16 +1,17 @@
 -- What is known from elsewhere changes no spelling, and asks no more than that it is so.
-use Rattle.std.proofs.Common.{◌≡◌, ℕ, zero, suc, ◌+◌, ◌-◌, Bool, true, false, eqb, List, [], ◌∷◌, length, take, drop, Option, Some, None, refl, sym, ap, subst, ◌∙◌}
-use Rattle.std.specs.Prelude.{is_some, IfSome, ◌&&◌, ◌||◌, ◌↔◌}
+use Rattle.std.proofs.Common.{◌≡◌, ℕ, zero, suc, ◌+◌, ◌-◌, Bool, true, false, eqb, List, [], ◌∷◌, length, take, drop, Option, Some, None, refl, sym, ap, subst}
+use Rattle.std.specs.Prelude.{is_some, IfSome, ◌||◌, ◌↔◌}
 use Rattle.std.specs.List.{All}
-use Rattle.std.proofs.lemmas.List.Elements.{All-nil, All-cons, All-weaker}
+use Rattle.std.proofs.lemmas.Bool.{and_parts}
+use Rattle.std.proofs.lemmas.List.Elements.{All-nil, All-cons}
 use Rattle.mlp_syntax.specs.declared.fault.Field.{Field}
 use Rattle.mlp_syntax.specs.declared.major.Kind.{Kind}
 use Rattle.mlp_syntax.specs.declared.restart.Restart.{Restart}
 use Rattle.mlp_syntax.specs.declared.segment.BlockHead.{BlockHead}
 use Rattle.mlp_syntax.specs.declared.segment.FrameCode.{FrameCode}
 use Rattle.mlp_syntax.specs.declared.segment.Segment.{Segment}
-use Rattle.mlp_layout.specs.Layout.{Layout, seen, ruled, part, made, tested, never, item}
-use Rattle.mlp_layout.specs.Combined.{under, fault_or, flag, chosen, present, up_to_last}
+use Rattle.mlp_layout.specs.Layout.{seen, ruled, part, made, tested, never, item}
+use Rattle.mlp_layout.specs.Combined.{under, fault_or, chosen, present, up_to_last}
 use Rattle.mlp_layout.specs.Tails.{whole_text, judged_at_end, checked_first, chosen_whole}
 use Rattle.mlp_params.specs.declared.state.State.{State}
 use Rattle.mlp_layout.specs.Allowed.{Allowed}
@@ -115,10 +116,6 @@ all_unknown (h ∷ hs) = All-cons (HoldsIn unknown) h hs (none_asked h) (all_unk
 
 -- ---- the rules at the end
 
-first_true : (a b : Bool) → (a && b) ≡ true → a ≡ true
-first_true true b e = refl
-first_true false b e = absurd cc
-
 no_end_fault : (a b : Bool) (place : ℕ) → end_fault a b place ≡ None → (a ≡ true) × (b ≡ true)
 no_end_fault true true place e = (refl, refl)
 no_end_fault true false place e = absurd cc
@@ -130,7 +127,7 @@ end_weaker known unit all s e = go known.first (no_end_fault (same_end known.fir
   where
     go : (first : Option Ending) → frames_fit first unit s ≡ true → end_fault true ((eqb (length s.codes.items) unit) || is_some s.terminator) (all - terminator_bits s) ≡ None
     go None h = rw h refl
-    go (Some k) h = let whole = first_true ((eqb (length s.codes.items) unit) || is_some s.terminator) (eqb (length s.codes.items) k.frames) h in rw whole refl
+    go (Some k) h = let whole = (and_parts ((eqb (length s.codes.items) unit) || is_some s.terminator) (eqb (length s.codes.items) k.frames) h).0 in rw whole refl
 
 end_known : (known : Known) (unit all : ℕ) (s : Segment) → same_end known.first s ≡ true → frames_fit known.first unit s ≡ true → end_rules known unit all s ≡ None
 unfolding end_rules

@@ -7,14 +7,12 @@ use Rattle.std.proofs.lemmas.List.{length-drop, drop_at}
 use Rattle.std.proofs.lemmas.List.Elements.{All-nil, All-cons}
 use Rattle.arrayvec.specs.ArrayVec.{array_vec_len}
 use Rattle.mlp_syntax.specs.declared.fault.Broken.{Broken}
-use Rattle.mlp_syntax.specs.declared.major.Kind.{Kind}
-use Rattle.mlp_syntax.specs.declared.restart.Restart.{Restart}
 use Rattle.mlp_syntax.specs.declared.params.Params.{Params}
 use Rattle.mlp_syntax.specs.declared.segment.BlockHead.{BlockHead}
 use Rattle.mlp_syntax.specs.declared.segment.FrameCode.{FrameCode}
 use Rattle.mlp_syntax.specs.declared.segment.Segment.{Segment}
-use Rattle.mlp_layout.specs.Layout.{Layout, number_of, ruled, part, made, never, item}
-use Rattle.mlp_layout.specs.Combined.{under, flag, chosen, present, series, up_to_last}
+use Rattle.mlp_layout.specs.Layout.{number_of, ruled, part, made, never, item}
+use Rattle.mlp_layout.specs.Combined.{under, chosen, present, series, up_to_last}
 use Rattle.mlp_layout.specs.Tails.{part_tail, placed, ending}
 use Rattle.mlp_params.specs.declared.state.ChannelState.{ChannelState}
 use Rattle.mlp_params.specs.declared.state.State.{State}
@@ -28,15 +26,15 @@ use Rattle.mlp_residual.specs.Frames.{channel_codes, coding_of, code_at, frame, 
 use Rattle.mlp_residual.proofs.FrameLaws.{series-length, listed-length}
 use Rattle.mlp_substream.specs.declared.known.Place.{Place}
 use Rattle.mlp_substream.specs.declared.known.Known.{Known}
-use Rattle.mlp_substream.specs.Restarts.{flags, judged_restart}
-use Rattle.mlp_substream.specs.Blocks.{against, restarted, after_head, steps_fit_in, context_of, first_context, Block, block, head, behind_flags, IsPlace, ForceFits}
+use Rattle.mlp_substream.specs.Restarts.{flags}
+use Rattle.mlp_substream.specs.Blocks.{against, restarted, after_head, steps_fit_in, context_of, first_context, Block, block, head, IsPlace, ForceFits}
 use Rattle.mlp_substream.specs.Segment.{nested, codes_of, blocks_from, segment_tail, segment, IsAllowed}
 use Rattle.mlp_substream.specs.Playable.{HeadFits, AreCoded, IsPlayable, ArePlayable}
-use Rattle.mlp_substream.proofs.BlockLaws.{frames_count, against_count}
-use Rattle.mlp_substream.proofs.ReadingLaws.{are_lawful}
-use Rattle.mlp_substream.proofs.WritingParts.{some_allowed, restart_allowed, against_allowed, head_parts, block_parts}
+use Rattle.mlp_substream.proofs.BlockLaws.{against_count}
+use Rattle.mlp_layout.proofs.Fitting.{some_allowed}
+use Rattle.mlp_substream.proofs.WritingParts.{restart_allowed, against_allowed, head_parts, block_parts}
 use Rattle.mlp_substream.proofs.WritingEnds.{has_tail, meets_tail, tail_blocks}
-use Rattle.mlp_substream.proofs.BlockCounts.{Counted, counted}
+use Rattle.mlp_substream.proofs.BlockCounts.{counted}
 use Rattle.mlp_substream.proofs.RoundTrip.{found_there}
 
 -- ---- a restart stands exactly where it is due

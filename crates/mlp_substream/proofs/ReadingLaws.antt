@@ -1,8 +1,8 @@
 -- How a block and a list of blocks are read, once their parts were.
-use Rattle.std.proofs.Common.{◌≡◌, ℕ, ◌+◌, ◌<◌, ◌≤◌, Bool, true, false, leb, List, [], ◌∷◌, ◌++◌, Result, Ok, Err, Option, Some, None, refl, sym, ap, ◌∙◌, append_assoc, arith}
-use Rattle.std.specs.Prelude.{IfSome, ◌&&◌}
-use Rattle.std.proofs.lemmas.Bool.{le-leb, leb-true}
+use Rattle.std.proofs.Common.{◌≡◌, ℕ, ◌+◌, ◌<◌, ◌≤◌, Bool, true, false, leb, List, [], ◌∷◌, ◌++◌, Ok, Err, Option, Some, None, refl, sym, ap, ◌∙◌, append_assoc, arith}
+use Rattle.std.proofs.lemmas.Bool.{and_parts, le-leb, leb-true}
 use Rattle.mlp_params.specs.States.{IsState}
+use Rattle.mlp_layout.proofs.LayoutLaws.{ok_of, ok_is}
 use Rattle.mlp_layout.proofs.RuleReading.{rule_holds}
 use Rattle.std.proofs.lemmas.List.{append-nil}
 use Rattle.mlp_syntax.specs.declared.segment.FrameCode.{FrameCode}
@@ -18,12 +18,6 @@ use Rattle.mlp_substream.specs.declared.known.Place.{Place}
 use Rattle.mlp_substream.specs.declared.known.Known.{Known}
 use Rattle.mlp_substream.specs.Blocks.{BlockContext, Block, against, steps_fit_in, block_size_in, head, after_head, block, force_after, context_of, ForceFits}
 use Rattle.mlp_substream.specs.Segment.{heads_of, codes_of}
-
-abbrev ok_of : {A : Type 0} → A → Result A Broken
-ok_of x = Ok x
-
-ok_is : {A : Type 0} (x y : A) → ok_of x ≡ ok_of y → x ≡ y
-ok_is x y e = cc
 
 -- what was appended is what was read
 pub record Appended {A : Type 0} (before after : List A) (place : ℕ) (read : Read (List A)) : Type 0 where
@@ -101,10 +95,6 @@ pub rest_stays : (next out before : Segment) → next ≡ record out { blocks = 
     → out ≡ record before { blocks = out.blocks; codes = out.codes } → next ≡ record before { blocks = next.blocks; codes = next.codes }
 rest_stays next out before e d = e ∙ ap (λ (s : Segment). record s { blocks = next.blocks; codes = next.codes }) d
 
-pub no_front : {A : Type 0} (r : Read (List A)) → with_front [] r ≡ r
-no_front (Ok x) = refl
-no_front (Err e) = refl
-
 pub force_starts : (place : Place) (force : Option State) → force ≡ force_after place force (heads_of [])
 unfolding heads_of
 force_starts place force = refl
@@ -113,11 +103,7 @@ force_starts place force = refl
 
 pub least_size : (s : State) → IsState s → 8 ≤ s.block_size
 unfolding ruled
-least_size s h = leb-true 8 s.block_size (first_of (leb 8 s.block_size) (leb s.block_size s.unit_frames) (rule_holds _ 0 h.block_size.meets.1))
-  where
-    first_of : (a b : Bool) → (a && b) ≡ true → a ≡ true
-    first_of true b e = refl
-    first_of false b e = absurd cc
+least_size s h = leb-true 8 s.block_size (and_parts (leb 8 s.block_size) (leb s.block_size s.unit_frames) (rule_holds _ 0 h.block_size.meets.1)).0
 
 -- without anything in force no frames are read
 pub least_frames : (place : Place) (force : Option State) (l : State → Layout (List FrameCode)) (all : List Bool) (q r : ℕ) (fs : List FrameCode)
@@ -125,7 +111,3 @@ pub least_frames : (place : Place) (force : Option State) (l : State → Layout 
 unfolding against never
 least_frames place None l all q r fs h e = absurd cc
 least_frames place (Some s) l all q r fs h e = least_size s h.lawful
-
-pub are_lawful : (place : Place) (force : Option State) → ForceFits place force → IfSome force (λ s. IsState s)
-are_lawful place None h = tt
-are_lawful place (Some s) h = h.lawful

@@ -1,6 +1,6 @@
 -- Restarts with another output timing.
 use Rattle.std.proofs.Common.{◌≡◌, ℕ, zero, suc, ◌+◌, ◌-◌, ◌<◌, ◌^◌, Bool, true, false, eqb, List, [], ◌∷◌, ◌++◌, length, take, drop, map, Option, Some, None, refl, sym, ap, ◌∙◌, arith}
-use Rattle.std.specs.Prelude.{option_map}
+use Rattle.std.proofs.lemmas.Bool.{eq-eqb}
 use Rattle.std.proofs.lemmas.List.{length-append}
 use Rattle.mlp_syntax.specs.declared.major.Kind.{Kind}
 use Rattle.mlp_syntax.specs.declared.restart.Restart.{Restart}
@@ -11,10 +11,9 @@ use Rattle.mlp_syntax.specs.declared.segment.Segment.{Segment}
 use Rattle.mlp_bits.specs.Bits.{bits}
 use Rattle.mlp_bits.specs.Checks.{restart_check_of, modulus_restart}
 use Rattle.mlp_bits.proofs.Remainders.{rem_from-smaller}
-use Rattle.mlp_layout.specs.Layout.{Layout, number_of, seen, ruled, tested, part, made, item, never}
+use Rattle.mlp_layout.specs.Layout.{number_of, seen, ruled, tested, part, made, item, never}
 use Rattle.mlp_layout.specs.Combined.{under, flag, fixed, checked, chosen, present, up_to_last}
 use Rattle.mlp_params.specs.declared.state.State.{State}
-use Rattle.mlp_layout.specs.Allowed.{Allowed}
 use Rattle.mlp_params.specs.RestartHeader.{restart_fields, restart}
 use Rattle.mlp_params.specs.InForce.{in_force}
 use Rattle.mlp_params.specs.Applied.{applied}
@@ -25,7 +24,7 @@ use Rattle.mlp_substream.specs.declared.known.Place.{Place}
 use Rattle.mlp_substream.specs.declared.known.Ending.{Ending}
 use Rattle.mlp_substream.specs.declared.known.Known.{Known}
 use Rattle.mlp_substream.specs.Restarts.{judged_restart, covers, flags}
-use Rattle.mlp_substream.specs.Blocks.{against, given, context_of, first_context, Block, block, head, behind_flags, after_head, force_after}
+use Rattle.mlp_substream.specs.Blocks.{against, context_of, Block, block, head, behind_flags, after_head, force_after}
 use Rattle.mlp_substream.specs.Segment.{nested, codes_of, same_end, frames_fit, end_fault, terminator_bits, end_rules, blocks_from, segment, IsAllowed}
 use Rattle.mlp_substream.specs.Timings.{SameButForTiming, stamp, stamp_head, stamped}
 use Rattle.mlp_substream.proofs.SegmentChanges.{Leads, weaker_leads, blocks_in, with_heads, segment_long, segment_allowed}
@@ -104,9 +103,6 @@ fields_stamped format r t small = record {
   };
 }
 
-eqb-same : (m n : ℕ) → m ≡ n → eqb m n ≡ true
-eqb-same m n h = grind arith
-
 grow : (a b c d : List Bool) → length a ≡ length b → length c ≡ length d → length (a ++ c) ≡ length (b ++ d)
 grow a b c d e f = length-append a c ∙ rw (e, f) (sym (length-append b d))
 
@@ -120,7 +116,7 @@ judged_stamped known format r t small =
     let l = fields_stamped format r t small in
     let check : ℕ = restart_check_of ((restart_fields format).spelling (stamp t r)) in
     let bound : check < 2 ^ 8 = rem_from-smaller modulus_restart 0 ((restart_fields format).spelling (stamp t r)) (omega arith) (omega arith) in
-    let same : eqb check check ≡ true = eqb-same check check refl in
+    let same : eqb check check ≡ true = eq-eqb check check refl in
     record {
       long = grow ((restart_fields format).spelling (stamp t r)) ((restart_fields format).spelling r) _ _ l.long refl;
       allowed = λ a.

@@ -153,6 +153,3 @@ module _ (place : Place) (known : Known) (first now : Option State) (hs : List B
     pub going_ends : Wrote old w text
     unfolding chosen made
     going_ends = so_far_ends old w text (subst (λ (bs : List Block). SoFar old w ((rest_of place known g.turns (context_of now start g.due) bs).spelling bs) text) none_left g.so_far)
-
-    pub force_ends : now ≡ force_after place first hs
-    force_ends = sym (ap (force_after place now) (drop_all i hs le)) ∙ g.force_is

@@ -1,13 +1,14 @@
 -- How heads and blocks are spelled and allowed, part by part.
-use Rattle.std.proofs.Common.{◌≡◌, ◌+◌, Bool, true, false, List, [], ◌++◌, Option, Some, None, refl, sym, ap}
+use Rattle.std.proofs.Common.{◌≡◌, ◌+◌, Bool, false, List, ◌++◌, Option, Some, None, sym, ap}
 use Rattle.std.specs.Prelude.{is_some, IfSome, IsTrue, nat_le}
 use Rattle.std.proofs.lemmas.List.{append-nil}
 use Rattle.mlp_syntax.specs.declared.major.Kind.{Kind}
 use Rattle.mlp_syntax.specs.declared.restart.Restart.{Restart}
 use Rattle.mlp_syntax.specs.declared.params.Params.{Params}
 use Rattle.mlp_syntax.specs.declared.segment.BlockHead.{BlockHead}
-use Rattle.mlp_layout.specs.Layout.{Layout, seen, ruled, part, made, tested}
+use Rattle.mlp_layout.specs.Layout.{Layout, ruled, part, made, tested}
 use Rattle.mlp_layout.specs.Combined.{under, flag, chosen, present}
+use Rattle.mlp_layout.proofs.Fitting.{some_allowed}
 use Rattle.mlp_params.specs.declared.state.State.{State}
 use Rattle.mlp_layout.specs.Allowed.{Allowed}
 use Rattle.mlp_params.specs.RestartHeader.{restart}
@@ -29,22 +30,6 @@ unfolding judged_restart under ruled
 judged_allowed known format r a = record { fits = a.fits; meets = a.meets.0.0.0 }
 
 -- ---- what is there or not
-
-pub none_text : {A : Type 0} (l : Layout A) → [] ≡ (present false l).spelling None
-unfolding present chosen made
-none_text l = refl
-
-pub some_text : {A : Type 0} (l : Layout A) (x : A) → l.spelling x ≡ (present true l).spelling (Some x)
-unfolding present chosen seen
-some_text l x = refl
-
-pub some_fits : {A : Type 0} (l : Layout A) (x : A) → (present true l).Fits (Some x) → l.Fits x
-unfolding present chosen seen
-some_fits l x fits = fits.0
-
-pub some_allowed : {A : Type 0} (l : Layout A) (x : A) → Allowed (present true l) (Some x) → Allowed l x
-unfolding present chosen seen
-some_allowed l x a = record { fits = a.fits.0; meets = a.meets }
 
 pub restart_allowed : (known : Known) (format : Kind) (o : Option Restart) → Allowed (present (is_some o) (judged_restart known format)) o → IfSome o (λ r. Allowed (restart format) r)
 restart_allowed known format None a = tt

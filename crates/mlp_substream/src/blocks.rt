@@ -1,5 +1,5 @@
 //! Reading the blocks of a segment.
-ghost use Rattle.std.specs.Prelude.{◌≡◌, ◌+◌, ◌≤◌, ◌<◌, ◌++◌, [], ◌∷◌, ℕ, List, Ok, Err, IfOk, IfErr, IsErr, OnOk, IfSome, MatchResult, Option, true, length, take};
+ghost use Rattle.std.specs.Prelude.{◌≡◌, ◌+◌, ◌≤◌, ◌<◌, ◌++◌, [], ◌∷◌, List, Ok, Err, IfOk, IfErr, IsErr, OnOk, IfSome, MatchResult, Option, true, length, take};
 ghost use Rattle.arrayvec.specs.ArrayVec.{array_vec_len};
 ghost use Rattle.mlp_syntax.specs.declared.segment.FrameCode.{FrameCode};
 ghost use Rattle.mlp_syntax.specs.declared.fault.Field.TheVariants.{BlockOverrun};

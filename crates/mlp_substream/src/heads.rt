@@ -1,6 +1,6 @@
 //! Reading the head of a block, and putting in force what it gives.
 //! Source: the MLP substream syntax as publicly documented.
-ghost use Rattle.std.specs.Prelude.{◌≡◌, ◌≤◌, IfOk, IfSome, OnOk, option_map};
+ghost use Rattle.std.specs.Prelude.{◌≡◌, IfOk, IfSome, OnOk, option_map};
 ghost use Rattle.mlp_layout.specs.Reading.{Gives};
 ghost use Rattle.mlp_layout.specs.Combined.{present};
 ghost use Rattle.mlp_layout.specs.Allowed.{Allowed};

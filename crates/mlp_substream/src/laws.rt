@@ -1,5 +1,5 @@
 //! What holds of segments.
-ghost use Rattle.std.specs.Prelude.{◌≡◌, ◌≤◌, ◌<◌, ◌*◌, ◌^◌, ◌++◌, ◌↔◌, ℕ, Bool, IsTrue, List, Option, None, Ok, length, reverse};
+ghost use Rattle.std.specs.Prelude.{◌≡◌, ◌≤◌, ◌<◌, ◌*◌, ◌^◌, ◌++◌, ◌↔◌, ℕ, Bool, IsTrue, List, Option, Ok, length, reverse};
 ghost use Rattle.mlp_syntax.specs.declared.segment.BlockHead.{BlockHead};
 ghost use Rattle.mlp_syntax.specs.declared.segment.Segment.{Segment};
 ghost use Rattle.mlp_layout.specs.Tails.{IsWhole};

@@ -1,9 +1,9 @@
 //! Reading the flags and the restart with which a block begins.
 //! Source: the MLP substream syntax as publicly documented.
-ghost use Rattle.std.specs.Prelude.{◌≡◌, ◌+◌, ◌≤◌, ◌<◌, ◌||◌, ◌&&◌, nat_le, is_some, IfOk, IfSome};
+ghost use Rattle.std.specs.Prelude.{◌≡◌, ◌+◌, ◌≤◌, ◌<◌, ◌||◌, ◌&&◌, nat_le, IfOk, IfSome};
 ghost use Rattle.mlp_bits.specs.Bits.{bit};
 ghost use Rattle.mlp_layout.specs.Reading.{Gives};
-ghost use Rattle.mlp_layout.specs.Combined.{first_fault, present};
+ghost use Rattle.mlp_layout.specs.Combined.{first_fault};
 ghost use Rattle.mlp_layout.specs.Allowed.{Allowed};
 ghost use Rattle.mlp_params.specs.RestartHeader.{restart};
 ghost use Rattle.mlp_substream.specs.Restarts.{flags, agrees, all_covered, covers, restart_rules, judged_restart};

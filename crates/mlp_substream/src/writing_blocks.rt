@@ -3,7 +3,6 @@
 //! Each call appends the text of its value, and answers `Full` exactly where the bits would pass 65,520; then the
 //! writer has its old bits and perhaps a part of the new ones, and isn't used again.
 ghost use Rattle.std.specs.Prelude.{◌≡◌, ◌++◌, ℕ, Bool, true, length, IfSome, OnOk};
-ghost use Rattle.mlp_syntax.specs.declared.fault.Field.TheVariants.{BlockOverrun};
 ghost use Rattle.mlp_layout.specs.Combined.{flag};
 ghost use Rattle.mlp_layout.specs.Writing.{Writes};
 ghost use Rattle.mlp_layout.specs.Allowed.{Allowed};

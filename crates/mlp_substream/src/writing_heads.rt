@@ -49,7 +49,7 @@ fn write_restart_if(header: &Option<Restart>, w: &mut BitWriter) -> Result<(), F
 }
 
 /// Parameters where there are some, against what is in force.
-#[tactic(auto, using(crate::proofs::WritingParts::some_allowed), unfolding(mlp_layout::specs::Layout::seen, mlp_layout::specs::Layout::made, mlp_layout::specs::Layout::never, mlp_layout::specs::Combined::chosen, mlp_layout::specs::Combined::present, crate::specs::Blocks::against))]
+#[tactic(auto, using(mlp_layout::proofs::Fitting::some_allowed), unfolding(mlp_layout::specs::Layout::seen, mlp_layout::specs::Layout::made, mlp_layout::specs::Layout::never, mlp_layout::specs::Combined::chosen, mlp_layout::specs::Combined::present, crate::specs::Blocks::against))]
 fn write_params_if(
     state: &Option<State>,
     given: &Option<Params>,

@@ -6,7 +6,6 @@ use Rattle.arrayvec.proofs.ArrayVecLemmas.{items-with_items}
 use Rattle.mlp_syntax.specs.declared.segment.Code.{Code}
 use Rattle.mlp_syntax.specs.declared.segment.FrameCode.{FrameCode}
 use Rattle.mlp_bits.specs.Bits.{bits_of}
-use Rattle.mlp_residual.specs.declared.ahead.Lookup.{Lookup}
 use Rattle.mlp_residual.specs.Lookups.{channel_of, most_in}
 use Rattle.mlp_residual.specs.Frames.{coded_frames}
 use Rattle.mlp_residual.proofs.RunLaws.{FramesRead, none_read, one_more, without_bypass, all_read, then_fails, frame_reads, frame_fails, of_channels}

@@ -12,7 +12,8 @@ use Rattle.mlp_substream.specs.declared.known.Known.{Known}
 use Rattle.mlp_substream.specs.declared.known.Place.{Place}
 use Rattle.mlp_substream.specs.Blocks.{BlockContext, Block, block, after_head, after_block, force_after, context_of}
 use Rattle.mlp_substream.specs.Segment.{heads_of, codes_of}
-use Rattle.mlp_substream.proofs.ReadingLaws.{at_is, no_front, force_starts, out_filled, rest_stays, heads_of-push, codes_of-push, force_after-push}
+use Rattle.mlp_layout.proofs.Repeated.{no_front}
+use Rattle.mlp_substream.proofs.ReadingLaws.{at_is, force_starts, out_filled, rest_stays, heads_of-push, codes_of-push, force_after-push}
 use Rattle.mlp_substream.proofs.blocks.read_blocks.Goals as goal
 
 -- one fewer of the turns that are left
