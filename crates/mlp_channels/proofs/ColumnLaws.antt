@@ -1,5 +1,5 @@
 -- One channel of frames that stand side by side.
-use Rattle.std.proofs.Common.{◌≡◌, ◌≢◌, ℕ, suc, ◌+◌, ◌<◌, ◌≤◌, List, [], ◌∷◌, ◌++◌, length, take, drop, get_or, ℤ, pos, All, refl, sym, ap, ◌∙◌, arith}
+use Rattle.std.proofs.Common.{◌≡◌, ◌≢◌, ℕ, ◌+◌, ◌<◌, ◌≤◌, List, [], ◌∷◌, ◌++◌, length, take, drop, get_or, ℤ, pos, All, refl, sym, ap, ◌∙◌, arith}
 use Rattle.std.proofs.lemmas.List.{map-append, take-map, get_or-set_same, get_or-set_other, take-append-drop}
 use Rattle.std.proofs.lemmas.List.Elements.{All-head, All-tail}
 use Rattle.std.proofs.lemmas.Slice.{take-put_mid}
@@ -14,11 +14,6 @@ pub take-column : (c n : ℕ) (frames : List (List ℤ)) → take n (column c fr
 take-column c n frames = take-map (λ (frame : List ℤ). get_or frame c (pos 0)) n frames
 
 -- ---- the values of a channel put beside the others
-
-length-with_column : (c : ℕ) (values : List ℤ) (frames : List (List ℤ)) → length (with_column c values frames) ≡ length frames
-length-with_column c [] frames = refl
-length-with_column c (v ∷ values) [] = refl
-length-with_column c (v ∷ values) (frame ∷ frames) = ap suc (length-with_column c values frames)
 
 -- they are that channel
 pub column-with_column : (c : ℕ) (values : List ℤ) (frames : List (List ℤ)) → length values ≡ length frames → All (λ (frame : List ℤ). c < length frame) frames → column c (with_column c values frames) ≡ values

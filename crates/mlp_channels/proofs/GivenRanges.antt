@@ -49,9 +49,6 @@ scaled_less a w s k h l =
     let p : 2 ^ (w + s) ≤ 2 ^ k = pow_mono l in
     omega arith
 
-more_than_none : (s : ℕ) → 0 < 2 ^ s
-more_than_none s = pow_pos s
-
 one_more : (n s : ℕ) → suc n * 2 ^ s ≡ 2 ^ s + n * 2 ^ s
 one_more n s = omega arith
 

@@ -1,5 +1,5 @@
 //! The outputs of one channel side by side with those of the others.
-ghost use Rattle.std.specs.Prelude.{◌≡◌, ◌<◌, ◌≤◌, length, slice_set};
+ghost use Rattle.std.specs.Prelude.{◌≡◌, ◌<◌, length, slice_set};
 ghost use Rattle.mlp_channels.specs.Columns.{with_column};
 
 /// Puts a value at a channel's place.

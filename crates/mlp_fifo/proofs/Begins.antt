@@ -1,7 +1,5 @@
 -- Giving up units until the others fit gives the least time for the next one.
-use Rattle.std.proofs.Common.{◌≡◌, ℕ, suc, ◌+◌, ◌-◌, ◌*◌, ◌<◌, ◌≤◌, List, [], ◌∷◌, ◌++◌, length, get_or, max, cond, arith, refl, ◌∙◌, ap, subst}
-use Rattle.std.specs.Prelude.{nat_lt}
-use Rattle.std.proofs.lemmas.Bool.Decides.{nat_tests}
+use Rattle.std.proofs.Common.{◌≡◌, ℕ, suc, ◌+◌, ◌-◌, ◌*◌, ◌<◌, ◌≤◌, List, [], ◌∷◌, ◌++◌, length, get_or, max, arith, refl, ◌∙◌, ap, subst}
 use Rattle.std.proofs.lemmas.Nat.{mul-le}
 use Rattle.std.proofs.lemmas.List.{length_push}
 use Rattle.std.proofs.Math.Decide.{dec_lt}
@@ -13,7 +11,7 @@ use Rattle.mlp_fifo.specs.Load.{sum_from}
 use Rattle.mlp_fifo.specs.Arrivals.{IsGone, IsShed, time_with_shed}
 use Rattle.mlp_fifo.specs.LeftFifo.{LeftFifo}
 use Rattle.mlp_fifo.specs.Placed.{load_from, latest_load, first_time, begins}
-use Rattle.mlp_fifo.proofs.Loads.{load, out_up, load_late, load_early, sum_front, sum_same}
+use Rattle.mlp_fifo.proofs.Loads.{load, out_up, gone_one, falls_one, load_late, load_early, sum_front, sum_same}
 use Rattle.mlp_fifo.proofs.Shown.{Shows, load_latest}
 use Rattle.mlp_fifo.proofs.FirstTimes.{IsFirst, within, first_is}
 use Rattle.mlp_fifo.proofs.Next.{IsNext}
@@ -82,18 +80,12 @@ shed_next p b latest n finish bytes x held left shows here h l gone shed kept gi
 
 -- ---- the first time at which there is room
 
-gone_one : (o b x : ℕ) → o ≤ x → cond (nat_lt x o) b 0 ≡ 0
-gone_one o b x h = grind (arith, nat_tests)
-
 -- nothing is left once all have been output
 none_from : (p : Pace) (n : ℕ) (xs : List ℕ) (x : ℕ) → ((i : ℕ) → i < n + length xs → out_of p i ≤ x) → load_from p n xs x ≡ 0
 none_from p n [] x h = refl
 none_from p n (b ∷ bs) x h =
     let m = none_from p (suc n) bs x (λ i l. h i (omega arith)) in
     omega (arith, m, gone_one (out_of p n) b x (h n (omega arith)))
-
-falls_one : (o b x y : ℕ) → x ≤ y → cond (nat_lt y o) b 0 ≤ cond (nat_lt x o) b 0
-falls_one o b x y h = grind (arith, nat_tests)
 
 pub load_from-falls : (p : Pace) (n : ℕ) (xs : List ℕ) (x y : ℕ) → x ≤ y → load_from p n xs y ≤ load_from p n xs x
 load_from-falls p n [] x y h = omega arith

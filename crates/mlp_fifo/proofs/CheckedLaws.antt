@@ -1,7 +1,7 @@
 -- What a unit with its timings means for the units so far.
 use Rattle.std.proofs.Common.{◌≡◌, ◌↔◌, ℕ, suc, ◌+◌, ◌-◌, ◌*◌, ◌%◌, ◌<◌, ◌≤◌, List, [], ◌∷◌, ◌++◌, length, min, max, Option, Some, None, Bool, true, false, IfSome, arith, refl, sym, ◌∙◌, ap, subst}
 use Rattle.std.specs.Prelude.{◌&&◌}
-use Rattle.std.proofs.lemmas.Bool.{leb-true, le-leb, eqb-true, eq-eqb, and_parts, and_from}
+use Rattle.std.proofs.lemmas.Bool.{leb-true, le-leb, eqb-true, eq-eqb, and_parts, and_from, false_from_ne_true}
 use Rattle.std.proofs.lemmas.List.{length_push, length-map}
 use Rattle.circular_buffer.specs.Buffer.{keep_last}
 use Rattle.mlp_syntax.specs.declared.major.Kind.{Kind}
@@ -54,20 +54,16 @@ admits_is p left time bytes output = (
   λ q. and_from _ _ (le-leb _ _ q.after) (and_from _ _ (le-leb _ _ q.fits) (and_from _ _ (le-leb _ _ q.in_time) q.output_is)),
 )
 
-not_true : (b : Bool) → (b ≡ true → ⊥) → b ≡ false
-not_true true h = absurd (h refl)
-not_true false h = refl
-
 -- at which times it holds, where units may begin from x on
 module _ (p : Pace) (left : LeftChecker) (time bytes x : ℕ) (output : Option ℕ) (first : IsFirst (latest_load p left.latest left.count bytes) p.size (max (left.count * p.unit) left.finish) x) where
   pub not_before : left.count * p.unit ≤ time → time < x → admits p left time bytes output ≡ false
-  not_before start h = not_true _ (λ t. let q = (admits_is p left time bytes output).0 t in omega (arith, first.least time (omega (arith, q.after)) q.fits))
+  not_before start h = false_from_ne_true _ (λ t. let q = (admits_is p left time bytes output).0 t in omega (arith, first.least time (omega (arith, q.after)) q.fits))
 
   pub not_late : out_of p left.count < time + duration_of p bytes → admits p left time bytes output ≡ false
-  not_late h = not_true _ (λ t. let q = (admits_is p left time bytes output).0 t in omega (arith, q.in_time))
+  not_late h = false_from_ne_true _ (λ t. let q = (admits_is p left time bytes output).0 t in omega (arith, q.in_time))
 
   pub not_output : is_output output (out_of p left.count) ≡ false → admits p left time bytes output ≡ false
-  not_output h = not_true _ (λ t. let q = (admits_is p left time bytes output).0 t in let e : false ≡ true = sym h ∙ q.output_is in cc)
+  not_output h = false_from_ne_true _ (λ t. let q = (admits_is p left time bytes output).0 t in let e : false ≡ true = sym h ∙ q.output_is in cc)
 
   pub admits_from : x ≤ time → time + duration_of p bytes ≤ out_of p left.count → is_output output (out_of p left.count) ≡ true → admits p left time bytes output ≡ true
   admits_from h ends o = (admits_is p left time bytes output).1 (record {

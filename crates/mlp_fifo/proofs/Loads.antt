@@ -17,8 +17,8 @@ pub out_up : (p : Pace) (i j : ℕ) → i ≤ j → out_of p i ≤ out_of p j
 unfolding out_of
 out_up p i j h = mul-le (p.latency + i) p.unit (p.latency + j) p.unit (omega arith) (omega arith)
 
-gone : (o b x : ℕ) → o ≤ x → cond (nat_lt x o) b 0 ≡ 0
-gone o b x h = grind (arith, nat_tests)
+pub gone_one : (o b x : ℕ) → o ≤ x → cond (nat_lt x o) b 0 ≡ 0
+gone_one o b x h = grind (arith, nat_tests)
 
 here : (o b x : ℕ) → x < o → cond (nat_lt x o) b 0 ≡ b
 here o b x h = grind (arith, nat_tests)
@@ -26,7 +26,7 @@ here o b x h = grind (arith, nat_tests)
 at_most : (o b x : ℕ) → cond (nat_lt x o) b 0 ≤ b
 at_most o b x = grind (arith, nat_tests)
 
-falls_one : (o b x y : ℕ) → x ≤ y → cond (nat_lt y o) b 0 ≤ cond (nat_lt x o) b 0
+pub falls_one : (o b x y : ℕ) → x ≤ y → cond (nat_lt y o) b 0 ≤ cond (nat_lt x o) b 0
 falls_one o b x y h = grind (arith, nat_tests)
 
 -- a later time has no more
@@ -36,7 +36,7 @@ load_falls p b (suc n) x y h = omega (arith, load_falls p b n x y h, falls_one (
 
 pub none_left : (p : Pace) (b : ℕ → ℕ) (k x : ℕ) → ((i : ℕ) → i < k → out_of p i ≤ x) → load p b k x ≡ 0
 none_left p b zero x h = refl
-none_left p b (suc k) x h = omega (arith, none_left p b k x (λ i l. h i (omega arith)), gone (out_of p k) (b k) x (h k (omega arith)))
+none_left p b (suc k) x h = omega (arith, none_left p b k x (λ i l. h i (omega arith)), gone_one (out_of p k) (b k) x (h k (omega arith)))
 
 -- where the first k units have been output, at most the later ones are left
 pub load_late : (p : Pace) (b : ℕ → ℕ) (k m x : ℕ) → ((i : ℕ) → i < k → out_of p i ≤ x) → load p b (k + m) x ≤ sum_from b k m

@@ -14,7 +14,7 @@ unfoldable pub duration_of : Pace → ℕ → ℕ
 duration_of p bytes = div_ceil (128 * bytes) p.peak
 
 -- what is held of unit i at a time: all of it from when it begins to arrive until its output
-abbrev pub held_of : Pace → (ℕ → ℕ) → (ℕ → ℕ) → ℕ → ℕ → ℕ
+abbrev held_of : Pace → (ℕ → ℕ) → (ℕ → ℕ) → ℕ → ℕ → ℕ
 held_of p b t time i = if nat_le (t i) time && nat_lt time (out_of p i) then b i else 0
 
 -- what is held of the first n units

@@ -79,7 +79,7 @@ pub record LeavesTimed (kind : Kind) (rate : ℕ) (units : List TimedUnit) (left
   pub timed_is : IsTrue left.timed ↔ AreTimed kind rate units
 
 -- what holds of each kind, rate and list of units that leave this
-abbrev pub EachTimed : LeftChecker → (Kind → ℕ → List TimedUnit → Type 0) → Type 0
+abbrev EachTimed : LeftChecker → (Kind → ℕ → List TimedUnit → Type 0) → Type 0
 EachTimed left P =
     (kind : Kind) (rate : ℕ) (units : List TimedUnit) → LeavesTimed kind rate units left → P kind rate units
 

@@ -1,5 +1,5 @@
 //! The units that have arrived, and which of the latest may still be held.
-ghost use Rattle.std.specs.Prelude.{◌≡◌, suc, ◌+◌, ◌-◌, ◌*◌, ◌^◌, ◌<◌, ◌≤◌, min, max};
+ghost use Rattle.std.specs.Prelude.{◌≡◌, ◌+◌, ◌-◌, ◌*◌, ◌^◌, ◌<◌, ◌≤◌, min, max};
 ghost use Rattle.std.specs.Prelude.{[], ◌∷◌, ◌++◌, length, slice_index};
 ghost use Rattle.circular_buffer.specs.Buffer.{keep_last};
 ghost use Rattle.mlp_fifo.specs.Pace.{IsRate, IsUsual, pace_of};

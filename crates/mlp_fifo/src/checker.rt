@@ -1,5 +1,5 @@
 //! The check of a stream's timings, one access unit at a time.
-ghost use Rattle.std.specs.Prelude.{◌≡◌, ◌↔◌, ◌+◌, ◌*◌, ◌%◌, ◌<◌, ◌≤◌, ◌^◌, ◌&&◌, [], IfOk, IfSome, IsTrue, is_some};
+ghost use Rattle.std.specs.Prelude.{◌≡◌, ◌+◌, ◌*◌, ◌%◌, ◌<◌, ◌≤◌, ◌^◌, ◌&&◌, [], IfOk, IfSome, IsTrue, is_some};
 ghost use Rattle.mlp_fifo.specs.Pace.{IsRate};
 ghost use Rattle.mlp_fifo.specs.LeftFifo.{OthersAreOut};
 ghost use Rattle.mlp_fifo.specs.Arrivals.{IsHeld, IsGone};

@@ -1,22 +1,16 @@
 -- Rows that look at the first places of a frame alone.
-use Rattle.std.proofs.Common.{◌≡◌, ℕ, zero, suc, ◌+◌, ◌≤◌, List, [], ◌∷◌, length, take, map, ℤ, ◌*ℤ◌, ◌+ℤ◌, arith, refl, sym, ◌∙◌, ap, Bool}
+use Rattle.std.proofs.Common.{◌≡◌, ℕ, zero, suc, ◌+◌, ◌≤◌, List, [], ◌∷◌, length, take, map, ℤ, ◌+ℤ◌, arith, refl, sym, ◌∙◌, ap, Bool}
 use Rattle.std.proofs.Math.ListN.{set}
 use Rattle.mlp_arith.specs.Words.{floor_by, clear, wrap}
 use Rattle.mlp_predict.specs.Prediction.{dot}
+use Rattle.mlp_predict.proofs.Blocks.{dot-take}
 use Rattle.mlp_syntax.specs.declared.params.MatrixRow.{MatrixRow}
 use Rattle.mlp_matrix.specs.Matrix.{weights, weighted, bit_of, step_of, row_applied, has_bit, applied_from, applied, applied_each}
 use Rattle.mlp_matrix.specs.Front.{AreWithin, MakeFront, MakeFronts}
 use Rattle.mlp_matrix.proofs.Weights.{length-weights_of}
 
--- the sum looks at as many places as there are weights
-dot-take : (ws frame : List ℤ) (m : ℕ) → length ws ≤ m → dot ws (take m frame) ≡ dot ws frame
-dot-take [] frame m h = refl
-dot-take (w ∷ ws) frame zero h = absurd (omega arith)
-dot-take (w ∷ ws) [] (suc m) h = refl
-dot-take (w ∷ ws) (x ∷ frame) (suc m) h = ap (λ z. w *ℤ x +ℤ z) (dot-take ws frame m (omega arith))
-
 -- a value that is set is seen in the front, or lies behind it
-take-set : (m : ℕ) (frame : List ℤ) (d : ℕ) (v : ℤ) → take m (set frame d v) ≡ set (take m frame) d v
+pub take-set : (m : ℕ) (frame : List ℤ) (d : ℕ) (v : ℤ) → take m (set frame d v) ≡ set (take m frame) d v
 take-set zero frame d v = refl
 take-set (suc m) [] d v = refl
 take-set (suc m) (x ∷ frame) zero v = refl

@@ -50,20 +50,20 @@ undone_applied ws xs d q bit y h k l fits one e =
     let f : int_shr (dot ws (set xs d u)) 14 ≡ u +ℤ int_shr s 14 = ap (λ z. int_shr z 14) split ∙ floor_add s u 16384 (omega arith) ∙ omega (arith, ints) in
     ap (λ z. wrap (clear q z +ℤ bit_of bit)) f ∙ made_again q y (int_shr s 14) (bit_of bit) l fits e
 
+pub set-again : (xs : List ℤ) (d : ℕ) (u v : ℤ) → set (set xs d u) d v ≡ set xs d v
+set-again [] d u v = refl
+set-again (x ∷ xs) zero u v = refl
+set-again (x ∷ xs) (suc d) u v = ap (λ ys. x ∷ ys) (set-again xs d u v)
+
 -- .. and so the whole old frame
 pub weighted-lifted : (ws xs : List ℤ) (d q : ℕ) (bit : Bool) (y : ℤ) → d < length ws → length ws ≤ length xs → q < 16
     → FitsSigned w32 y → get_or ws d (pos 0) ≡ pos 16384 → y ≡ get_or xs d (pos 0) → y ≡ clear q y +ℤ bit_of bit →
     weighted ws d q bit (set xs d (lifted ws d q xs y)) ≡ xs
 weighted-lifted ws xs d q bit y h k l fits one there e =
     ap (set (set xs d (lifted ws d q xs y)) d) (undone_applied ws xs d q bit y h k l fits one e ∙ there)
-    ∙ set-set xs d (lifted ws d q xs y) (get_or xs d (pos 0))
+    ∙ set-again xs d (lifted ws d q xs y) (get_or xs d (pos 0))
     ∙ set-same xs d
   where
-    set-set : (xs : List ℤ) (d : ℕ) (u v : ℤ) → set (set xs d u) d v ≡ set xs d v
-    set-set [] d u v = refl
-    set-set (x ∷ xs) zero u v = refl
-    set-set (x ∷ xs) (suc d) u v = ap (λ ys. x ∷ ys) (set-set xs d u v)
-
     set-same : (xs : List ℤ) (d : ℕ) → set xs d (get_or xs d (pos 0)) ≡ xs
     set-same [] d = refl
     set-same (x ∷ xs) zero = refl
@@ -77,11 +77,6 @@ lifted_prepared row ws cs n dest step frame a b c =
     ap (λ zs. lifted zs dest step frame (get_or frame dest (pos 0))) (a ∙ ap (λ zs. weights_of row.frac zs ++ replicate n (pos 0)) b)
     ∙ ap (λ z. wrap (clear step (get_or frame dest (pos 0)) -ℤ clear step (int_shr z 14))) (dot-zeros (weights row) (set frame dest (pos 0)) n)
     ∙ ap (λ (d : ℕ). lifted (weights row) d step frame (get_or frame d (pos 0))) c
-
-pub set-again : (xs : List ℤ) (d : ℕ) (u v : ℤ) → set (set xs d u) d v ≡ set xs d v
-set-again [] d u v = refl
-set-again (x ∷ xs) zero u v = refl
-set-again (x ∷ xs) (suc d) u v = ap (λ ys. x ∷ ys) (set-again xs d u v)
 
 -- a weight that is there has a place
 pub lt-length : (ws : List ℤ) (d : ℕ) → get_or ws d (pos 0) ≡ pos 16384 → d < length ws

@@ -1,6 +1,6 @@
 //! Rows in order, over one frame and over many.
 
-ghost use Rattle.std.specs.Prelude.{◌≡◌, ◌<◌, ◌≤◌, ◌==◌, ◌/◌, ◌%◌, ◌^◌, length, map, false, All};
+ghost use Rattle.std.specs.Prelude.{◌≡◌, ◌<◌, ◌≤◌, ◌==◌, length, map, false, All};
 ghost use Rattle.mlp_predict.specs.Prediction.{IsCoefficient};
 ghost use Rattle.mlp_matrix.specs.Front.{AreUsed};
 ghost use Rattle.mlp_matrix.specs.Matrix.{applied, applied_each, weights, weighted, weighted_each, has_bit, IsRow, AreRows};

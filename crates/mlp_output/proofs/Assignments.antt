@@ -1,8 +1,8 @@
 -- A restart header assigns each matrix channel an output channel of its own.
-use Rattle.std.proofs.Common.{◌≡◌, ℕ, zero, suc, ◌+◌, ◌<◌, ◌≤◌, ◌≢◌, ◌^◌, Bool, true, false, leb, eqb, List, [], ◌∷◌, ◌++◌, length, take, get_or, refl, sym, ap, ◌∙◌, arith, eq-eqb, append_assoc}
-use Rattle.std.specs.Prelude.{All, not, ◌||◌}
+use Rattle.std.proofs.Common.{◌≡◌, ℕ, zero, suc, ◌+◌, ◌<◌, ◌≤◌, ◌≢◌, Bool, true, false, leb, eqb, List, [], ◌∷◌, ◌++◌, length, take, get_or, refl, sym, ap, ◌∙◌, arith, eq-eqb, append_assoc}
+use Rattle.std.specs.Prelude.{All, not}
 use Rattle.std.specs.List.{list_any}
-use Rattle.std.proofs.lemmas.Bool.{and_parts, leb-true}
+use Rattle.std.proofs.lemmas.Bool.{and_parts, or_parts, leb-true}
 use Rattle.std.proofs.lemmas.List.{append-nil, get_or-take, length-take-le}
 use Rattle.std.proofs.lemmas.List.Elements.{All-nil, All-cons, All-same}
 use Rattle.mlp_syntax.specs.declared.major.Kind.{Kind}
@@ -64,10 +64,6 @@ series_new m (suc n) before (x ∷ xs) fits meets (suc c) lt =
 
 -- ---- a number that isn't among others is none of them
 
-or_parts : (a b : Bool) → (a || b) ≡ false → (a ≡ false) × (b ≡ false)
-or_parts true b h = absurd cc
-or_parts false b h = (refl, h)
-
 has_not : (ys : List ℕ) (a k : ℕ) → has ys a ≡ false → k < length ys → get_or ys k 0 ≢ a
 has_not [] a k absent lt same = absurd (omega arith)
 has_not (y ∷ ys) a zero absent lt same = let yes_it = eq-eqb y a same in let parts = or_parts (eqb y a) (has ys a) absent in absurd cc
@@ -85,10 +81,6 @@ series_at format r h =
 pub noise_shift_most : (format : Kind) (r : Restart) → Allowed (restart format) r → r.noise_shift < 16
 unfolding restart restart_fields checked fixed part number_of
 noise_shift_most format r h = h.fits.0.1.1.1.1.1.1.0
-
-pub seed_most : (format : Kind) (r : Restart) → Allowed (restart format) r → r.seed < 2 ^ 23
-unfolding restart restart_fields checked fixed part number_of
-seed_most format r h = h.fits.0.1.1.1.1.1.1.1.0
 
 pub assign_count : (format : Kind) (r : Restart) → Allowed (restart format) r → length r.assign.items ≡ r.max_matrix + 1
 assign_count format r h = series_count r.max_matrix (r.max_matrix + 1) [] r.assign.items (series_at format r h).0

@@ -6,6 +6,7 @@ use Rattle.mlp_arith.specs.Words.{floor_by, clear, wrap}
 use Rattle.mlp_predict.specs.Prediction.{dot}
 use Rattle.mlp_syntax.specs.declared.params.MatrixRow.{MatrixRow}
 use Rattle.mlp_matrix.specs.Matrix.{weight, weights_of, weighted, bit_of, step_of, row_applied, has_bit, applied_from, applied}
+use Rattle.mlp_matrix.proofs.Fronts.{take-set}
 use Rattle.mlp_output.specs.Frames.{HasNoneBehind, HearNone}
 
 -- without coefficients there is no sum
@@ -21,12 +22,6 @@ dot-behind frac cs frame zero h = dot-none frac cs [] h ∙ sym (dot-none frac c
 dot-behind frac [] frame (suc m) h = refl
 dot-behind frac (c ∷ cs) [] (suc m) h = refl
 dot-behind frac (c ∷ cs) (x ∷ frame) (suc m) h = ap (λ z. weight frac c *ℤ x +ℤ z) (dot-behind frac cs frame m (λ k l n. h (suc k) (omega arith) (omega arith)))
-
-take-set : (m : ℕ) (frame : List ℤ) (d : ℕ) (v : ℤ) → take m (set frame d v) ≡ set (take m frame) d v
-take-set zero frame d v = refl
-take-set (suc m) [] d v = refl
-take-set (suc m) (x ∷ frame) zero v = refl
-take-set (suc m) (x ∷ frame) (suc d) v = ap (λ ys. x ∷ ys) (take-set m frame d v)
 
 take-weighted : (frac : ℕ) (cs : List (Option ℤ)) (m dest step : ℕ) (bit : Bool) (frame : List ℤ) → HasNoneBehind m cs →
     take m (weighted (weights_of frac cs) dest step bit frame) ≡ weighted (weights_of frac cs) dest step bit (take m frame)
