@@ -1,7 +1,7 @@
 //! The rows and steps of the mixes.
 
 ghost use Rattle.std.specs.Prelude.{◌≡◌, ◌≤◌, ◌<◌, ◌-◌, [], ◌∷◌, false, length, All};
-ghost use Rattle.mlp_fold.specs.Rows.{row, on, left, right, rows_of, fold_rows, bypass_rows, side_row, steps_of, steps_by, bypass_steps};
+ghost use Rattle.mlp_fold.specs.Rows.{row, on, left, right, rows_of, fold_rows, bypass_rows, steps_of};
 
 use crate::profile::Mix;
 use arrayvec::ArrayVec;

@@ -1,6 +1,6 @@
 //! Sums of a mix.
 
-ghost use Rattle.std.specs.Prelude.{◌≡◌, ◌≤◌, ◌^◌, pos, neg_ℤ, ◌+ℤ◌, ◌*ℤ◌, ◌≤ℤ◌, ◌<ℤ◌};
+ghost use Rattle.std.specs.Prelude.{◌≡◌, ◌≤◌, ◌^◌, pos, neg_ℤ, ◌+ℤ◌, ◌*ℤ◌, ◌≤ℤ◌};
 ghost use Rattle.mlp_arith.specs.Ranges.{Is26};
 ghost use Rattle.mlp_fold.specs.Mix.{IsSample, lowered, front6, front8, stereo, halved};
 

@@ -125,7 +125,7 @@ fewest_bits zero cs = 1
 fewest_bits (suc w) cs = if list_all (has_bits w) cs then fewest_bits w cs else suc w
 
 -- a filter of these coefficients with so many fraction bits
-abbrev pub filter_at : ℕ → List ℤ → Filter 8
+abbrev filter_at : ℕ → List ℤ → Filter 8
 filter_at s cs = record {
   shift = s;
   coeff_bits = fewest_bits 16 cs;

@@ -8,7 +8,8 @@ use Rattle.mlp_syntax.specs.declared.major.MajorSync.{MajorSync}
 use Rattle.mlp_layout.specs.Layout.{Layout, IsLayout, number_of, seen, ruled, part}
 use Rattle.mlp_layout.proofs.LayoutLaws.{number_of_is, seen_is, ruled_is, part_is, opening_is, whole_is}
 use Rattle.mlp_layout.proofs.CombinedLaws.{layouts, fixed_is, checked_is, under_is, must_is}
-use Rattle.mlp_layout.proofs.Sizes.{Takes, number_takes, seen_takes, flag_takes, under_takes, ruled_takes, opening_takes, whole_takes, made_takes, part_takes, fixed_takes, checked_takes, chosen_takes, nil_takes, item_takes, times_takes, total, total-same, takes_is}
+use Rattle.mlp_layout.proofs.Sizes.{Takes, number_takes, seen_takes, flag_takes, under_takes, ruled_takes, opening_takes, whole_takes, made_takes, part_takes}
+use Rattle.mlp_layout.proofs.Sizes.{fixed_takes, checked_takes, chosen_takes, nil_takes, item_takes, times_takes, total, total-same, takes_is}
 use Rattle.mlp_major.specs.declared.reading.SignedSync.{SignedSync}
 use Rattle.mlp_major.specs.MajorSync.{fbb, fba, format_info, kind_of, kind_bit, kind_bit_of, extension, fields, rules, checked_sync, judged_sync, major_sync, signature, is_long, sync}
 

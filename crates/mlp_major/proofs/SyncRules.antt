@@ -14,7 +14,8 @@ use Rattle.mlp_bits.proofs.BitLists.{length-bits}
 use Rattle.mlp_bits.proofs.ReadBack.{number-of}
 use Rattle.mlp_layout.specs.Layout.{number_of, seen, ruled, opening, whole, part, made, item}
 use Rattle.mlp_layout.specs.Combined.{flag, fixed, checked, chosen, times}
-use Rattle.mlp_major.specs.MajorSync.{fbb, fba, format_info, kind_of, kind_bit, kind_bit_of, extension, is_long, fields, checked_sync, judged_sync, major_sync, rules, with_signature, sync, rate_of, is_rate, in_fba, in_fbb, most_substreams, is_unchanged, is_same_kind, IsUsable, Alike, HasKindOf, KeepsRules, smaller, NarrowsWell}
+use Rattle.mlp_major.specs.MajorSync.{fbb, fba, format_info, kind_of, kind_bit, kind_bit_of, extension, is_long, fields, checked_sync, judged_sync, major_sync, rules, with_signature, sync}
+use Rattle.mlp_major.specs.MajorSync.{rate_of, is_rate, in_fba, in_fbb, most_substreams, is_unchanged, is_same_kind, IsUsable, Alike, HasKindOf, KeepsRules, smaller, NarrowsWell}
 use Rattle.mlp_major.proofs.SyncWriting.{sync_fits, sync_text, checked_text, fields_text, sync_has_fields, piece_2, piece_3, piece_4, piece_5}
 use Rattle.mlp_major.proofs.SyncFitting.{fit_of, fit_by}
 use Rattle.mlp_major.proofs.RuleLaws.{Met, met, meets_under, first_none, none_first, both}

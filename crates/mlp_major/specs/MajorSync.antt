@@ -51,11 +51,11 @@ fba =
       assign8 = assign8;
     }))))))))
 
-abbrev pub fbb_of : FormatInfo → Option FormatFbb
+abbrev fbb_of : FormatInfo → Option FormatFbb
 fbb_of (format.Fbb f) = Some f
 fbb_of (format.Fba f) = None
 
-abbrev pub fba_of : FormatInfo → Option FormatFba
+abbrev fba_of : FormatInfo → Option FormatFba
 fba_of (format.Fbb f) = None
 fba_of (format.Fba f) = Some f
 

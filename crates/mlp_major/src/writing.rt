@@ -1,8 +1,7 @@
 //! Writing a major sync.
-ghost use Rattle.std.specs.Prelude.{◌≡◌, ◌≤◌, ◌<◌, ◌+◌, ◌*◌, ◌%◌, ◌↔◌, ◌++◌, [], length, None, IsErr, OnErr, OnOk};
+ghost use Rattle.std.specs.Prelude.{◌≡◌, ◌≤◌, ◌<◌, ◌+◌, ◌*◌, ◌↔◌, ◌++◌, [], length, None, IsErr, OnErr, OnOk};
 ghost use Rattle.mlp_bits.specs.Bits.{bits_of};
 ghost use Rattle.mlp_layout.specs.Layout.{number_of};
-ghost use Rattle.mlp_layout.specs.Combined.{times};
 ghost use Rattle.mlp_layout.specs.Writing.{Writes};
 ghost use Rattle.mlp_major.specs.MajorSync.{fbb, fba, format_info, kind_of, kind_bit_of, fields, checked_sync, with_signature, major_sync};
 
