@@ -17,10 +17,6 @@ abbrev Copied : Bool → List ℕ → Outcome ℕ → Type 0
 Copied true bytes o = (o.end ≡ Ok tt) × (o.output ≡ bytes)
 Copied false bytes o = o.end ≡ Err TooLong
 
-least_one : (ended : Bool) → 1 ≤ least ended
-least_one true = omega arith
-least_one false = omega arith
-
 abbrev runs : ℕ → Bool → ℕ → List ℕ → Outcome ℕ
 runs turns ended s bytes = run_for copy_step copy_last turns ended s bytes
 

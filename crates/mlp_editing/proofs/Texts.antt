@@ -1,5 +1,5 @@
 -- The text of what is recovered, written piece by piece.
-use Rattle.std.proofs.Common.{◌≡◌, ℕ, suc, ◌+◌, ◌*◌, ◌<◌, ◌≤◌, true, false, List, [], ◌∷◌, ◌++◌, length, take, drop, get_or, Result, Ok, Err, Option, Some, None, IfSome, refl, sym, ap, subst, ◌∙◌, arith, length-append, ℤ}
+use Rattle.std.proofs.Common.{◌≡◌, ℕ, suc, ◌+◌, ◌*◌, ◌<◌, ◌≤◌, true, List, [], ◌∷◌, ◌++◌, length, take, drop, get_or, Result, Ok, Err, Option, Some, None, IfSome, refl, sym, ap, subst, ◌∙◌, arith, length-append, ℤ}
 use Rattle.std.specs.Prelude.{min, All, slice_range}
 use Rattle.std.proofs.lemmas.List.{length-set, length-take-le, length-map, take_all, take_more, take-append-drop, append-nil, get_or-map}
 use Rattle.std.proofs.lemmas.List.Concat.{flat_map-append}
@@ -35,7 +35,7 @@ use Rattle.mlp_recover.specs.declared.span.Span.{Span}
 use Rattle.mlp_samples.specs.Behind.{left_behind}
 use Rattle.mlp_recover.specs.Recovered.{Piece, Lost, Kept}
 use Rattle.mlp_recover.specs.Spans.{span_of}
-use Rattle.mlp_editing.specs.Told.{lost_line, kept_line, told, all_told, Puts, IsSpan, AreSpansOf}
+use Rattle.mlp_editing.specs.Told.{kept_line, told, all_told, Puts, IsSpan, AreSpansOf}
 
 -- ---- one text behind another
 
@@ -162,24 +162,6 @@ module _ (k : ℕ) (bytes : List ℕ) (span : Span) (us : List Unit_of) (is : Is
       → Puts (record { before = a; behind = c }) (told k (Kept span.first span.past us)) r
   kept_puts a b c line n r is_line size first w =
       subst (λ (text : List ℕ). Puts (record { before = a; behind = c }) text r) (whole_text n size) (puts_behind a b c (line_of n) (decoded k 24 us) r (subst (Appends a b) is_line first) w)
-
--- a span that is kept is that of a kept piece, and else of a lost one
-pub record IsKept (k : ℕ) (bytes : List ℕ) (span : Span) (p : Piece) : Type 0 where
-  pub units : List Unit_of
-  pub piece : p ≡ Kept span.first span.past units
-  pub is : IsSpan k bytes span (Kept span.first span.past units)
-
-pub is_kept : (k : ℕ) (bytes : List ℕ) (span : Span) (p : Piece) → IsSpan k bytes span p → span.kept ≡ true → IsKept k bytes span p
-is_kept k bytes span (Lost first past) h kept = absurd (let same = ap (λ (s : Span). s.kept) h.1 in cc)
-is_kept k bytes span (Kept first past us) h kept =
-    let f : span.first ≡ first = ap (λ (s : Span). s.first) h.1 in
-    let q : span.past ≡ past = ap (λ (s : Span). s.past) h.1 in
-    let piece : Kept first past us ≡ Kept span.first span.past us = cc in
-    record { units = us; piece = piece; is = subst (IsSpan k bytes span) piece h }
-
-pub lost_text : (k : ℕ) (bytes : List ℕ) (span : Span) (p : Piece) → IsSpan k bytes span p → span.kept ≡ false → lost_line span.first span.past ≡ told k p
-lost_text k bytes span (Lost first past) h lost = ap (λ (s : Span). lost_line s.first s.past) h.1
-lost_text k bytes span (Kept first past us) h lost = absurd (let same = ap (λ (s : Span). s.kept) h.1 in cc)
 
 -- ---- all pieces
 

@@ -1,8 +1,8 @@
 -- The channels of a block, one after the other.
-use Rattle.std.proofs.Common.{◌≡◌, ℕ, zero, suc, ◌+◌, ◌-◌, ◌<◌, ◌≤◌, Bool, List, [], ◌∷◌, ◌++◌, take, drop, map, length, get_or, Option, pos, refl, sym, ap, ◌∙◌, arith, append_assoc}
+use Rattle.std.proofs.Common.{◌≡◌, ℕ, zero, suc, ◌+◌, ◌-◌, ◌<◌, ◌≤◌, Bool, List, [], ◌∷◌, ◌++◌, take, drop, map, length, get_or, Option, pos, sym, ap, ◌∙◌, arith, append_assoc}
 use Rattle.std.specs.List.{range_with_len}
 use Rattle.std.proofs.Math.ListN.{set}
-use Rattle.std.proofs.lemmas.List.{map-append, length-map, length-append, length-take-le, length-set, take-append-drop, append-nil, drop_more, get_or-append-add, get_or-drop, set-append_right}
+use Rattle.std.proofs.lemmas.List.{map-append, length-map, length-append, length-take-le, length-set, drop_more, get_or-append-add, get_or-drop, set-append_right}
 use Rattle.std.proofs.lemmas.List.FromFn.{map-range_with_len_more, length-map-range_with_len}
 use Rattle.mlp_syntax.specs.declared.params.ChannelParams.{ChannelParams}
 use Rattle.mlp_syntax.specs.declared.params.MatrixRow.{MatrixRow}
@@ -16,7 +16,7 @@ use Rattle.mlp_fold.specs.declared.coding.CodedFrame.{CodedFrame}
 use Rattle.mlp_fold.specs.Substreams.{first_channel, last_channel}
 use Rattle.mlp_encode.specs.Coding.{Sent, column, channel_sent}
 use Rattle.mlp_encode.specs.Pushed.{with_codes}
-use Rattle.mlp_encode.specs.Blocks.{Force, frame_code, channel_in, channels_in, codes_in, pasts_with}
+use Rattle.mlp_encode.specs.Blocks.{Force, frame_code, channel_in, codes_in}
 use Rattle.mlp_encode.proofs.SentCodes.{codes_next, codes_count}
 
 pub last_most : (j : ℕ) → last_channel j ≤ 7
@@ -47,21 +47,6 @@ module _ (j : ℕ) (s : State) (steps : List ℕ) (filters : Bool) (frames : Lis
     pub codes_are : codes ≡ codes_in [] (sent_below k) frames
     pub pasts_are : pasts ≡ (take (first_channel j) old ++ map (λ x. x.past) (sent_below k)) ++ drop k old
     pub count_is : length pasts ≡ length old
-
-  none_below : sent_below (first_channel j) ≡ []
-  none_below = let e : first_channel j - first_channel j ≡ 0 = omega arith in ap (λ (n : ℕ). map (channel_in j before steps filters frames) (range_with_len (first_channel j) n)) e
-
-  pub sending_none : (given : List (Option ChannelParams)) (codes : List FrameCode) → given ≡ [] → codes ≡ codes_in [] [] frames → Sending (first_channel j) given codes old
-  sending_none given codes g c = record {
-    given_are = g ∙ sym (ap (λ (xs : List Sent). map (λ x. x.given) xs) none_below);
-    codes_are = c ∙ sym (ap (λ (xs : List Sent). codes_in [] xs frames) none_below);
-    pasts_are = sym (
-        ap (λ (xs : List Sent). (take (first_channel j) old ++ map (λ x. x.past) xs) ++ drop (first_channel j) old) none_below
-        ∙ ap (λ (ps : List Past). ps ++ drop (first_channel j) old) (append-nil (take (first_channel j) old))
-        ∙ take-append-drop (first_channel j) old
-        );
-    count_is = refl;
-  }
 
   module _ (k : ℕ) (from : first_channel j ≤ k) (below : k < length old) where
     abbrev x : Sent
@@ -131,14 +116,3 @@ module _ (j : ℕ) (s : State) (steps : List ℕ) (filters : Bool) (frames : Lis
           pasts_are = ap (λ (p : Past). set pasts k p) (ea ∙ ap (λ (z : Sent). z.past) same) ∙ next_pasts pasts h.pasts_are;
           count_is = length-set pasts k after ∙ h.count_is;
         }
-
-  pub sending_all : (k : ℕ) (given : List (Option ChannelParams)) (codes : List FrameCode) (pasts : List Past) → k ≡ last_channel j + 1 → first_channel j ≤ last_channel j → Sending k given codes pasts
-      → (given ≡ map (λ x. x.given) (channels_in j before steps filters frames)) × (codes ≡ codes_in [] (channels_in j before steps filters frames) frames) × (pasts ≡ pasts_with j old (channels_in j before steps filters frames))
-  sending_all k given codes pasts e le h =
-      let n : k - first_channel j ≡ last_channel j - first_channel j + 1 = omega (arith, e) in
-      let all : sent_below k ≡ channels_in j before steps filters frames = ap (λ (n : ℕ). map (channel_in j before steps filters frames) (range_with_len (first_channel j) n)) n in (
-        h.given_are ∙ ap (λ (xs : List Sent). map (λ x. x.given) xs) all,
-        h.codes_are ∙ ap (λ (xs : List Sent). codes_in [] xs frames) all,
-        h.pasts_are ∙ ap (λ (xs : List Sent). (take (first_channel j) old ++ map (λ x. x.past) xs) ++ drop k old) all
-            ∙ ap (λ (i : ℕ). (take (first_channel j) old ++ map (λ x. x.past) (channels_in j before steps filters frames)) ++ drop i old) e,
-      )

@@ -49,9 +49,6 @@ module _ (frames : List CodedFrame) where
 
 -- ---- the bypassed bits
 
-no_frame : CodedFrame
-no_frame = record { values = []; bypass = 0 }
-
 bits_over : (all : List CodedFrame) (g : ℕ → FrameCode) (a n : ℕ) → a + n ≡ length all
     → with_bits (drop a all) (map g (range_with_len a n)) ≡ map (λ i. record (g i) { bypass = (get_or all i (record { values = []; bypass = 0 })).bypass }) (range_with_len a n)
 bits_over all g a zero e = ap (λ (cs : List CodedFrame). with_bits cs []) (drop_all a all (omega (arith, e)))

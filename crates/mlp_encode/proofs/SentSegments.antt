@@ -51,9 +51,6 @@ module _ (p : Profile) (coded : List CodedFrame) (a : AreCodedBy p coded) where
   least : 40 ≤ length coded
   least = omega (arith, unit_least p.rate, a.count)
 
-  value : ℕ → CodedFrame → ℤ
-  value c f = at f.values c
-
   pub part_all : Part p coded
   part_all = record { least = omega (arith, least); most = omega (arith, a.count); samples = a.samples; bits = a.bits; whole = a.whole }
 

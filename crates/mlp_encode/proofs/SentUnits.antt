@@ -1,5 +1,5 @@
 -- The segments of a unit, one after the other.
-use Rattle.std.proofs.Common.{◌≡◌, ℕ, zero, suc, ◌+◌, ◌/◌, ◌%◌, ◌<◌, ◌≤◌, Bool, true, false, List, [], ◌∷◌, ◌++◌, take, drop, length, get_or, Option, Some, None, refl, sym, ap, ◌∙◌, subst, arith, append_assoc, append-nil}
+use Rattle.std.proofs.Common.{◌≡◌, ℕ, suc, ◌+◌, ◌/◌, ◌%◌, ◌<◌, ◌≤◌, Bool, true, false, List, [], ◌∷◌, ◌++◌, take, drop, length, get_or, Option, Some, None, refl, sym, ap, ◌∙◌, subst, arith, append_assoc}
 use Rattle.std.specs.Prelude.{nat_lt, IfSome, IsSome, is_some}
 use Rattle.std.specs.Option.{IsSomeAnd}
 use Rattle.std.proofs.lemmas.Bool.{ltb-true, ltb-false}
@@ -20,8 +20,8 @@ use Rattle.mlp_fold.specs.declared.coding.CodedFrame.{CodedFrame}
 use Rattle.mlp_fold.specs.Substreams.{substreams_of}
 use Rattle.mlp_encode.specs.Numbers.{has_sync}
 use Rattle.mlp_encode.specs.Blocks.{SentSegment, segment_sent}
-use Rattle.mlp_encode.specs.Lawful.{IsInForce, AreInForce, SendsSegment, IsEnd, IsSentSegment, place_in, segment_most, segments_to, AreWords}
-use Rattle.mlp_encode.specs.Unit.{SentUnit, nothing_sent, before, segments_from, segments_bytes, joined, entry_at, entries_from, restart_in, IsSentUnit, AreWhole}
+use Rattle.mlp_encode.specs.Lawful.{IsInForce, SendsSegment, IsEnd, IsSentSegment, place_in, segment_most, segments_to, AreWords}
+use Rattle.mlp_encode.specs.Unit.{SentUnit, nothing_sent, before, segments_from, segments_bytes, joined, entry_at, entries_from, restart_in}
 use Rattle.mlp_encode.proofs.Renewed.{substreams_most}
 use Rattle.mlp_encode.proofs.SentLength.{written_is}
 use Rattle.mlp_encode.proofs.UnitLengths.{segments_more}
@@ -36,11 +36,6 @@ record Found {A : Type 0} (o : Option A) (P : A → Type 0) : Type 0 where
 found : {A : Type 0} (o : Option A) (P : A → Type 0) → IsSomeAnd o P → Found o P
 found (Some x) P h = record { value = x; is = refl; holds = h }
 found None P h = absurd h
-
-none_behind : {A : Type 0} (m : ℕ) (xs : List A) → drop m (take m xs) ≡ []
-none_behind zero xs = refl
-none_behind (suc m) [] = refl
-none_behind (suc m) (x ∷ xs) = none_behind m xs
 
 module _ (p : Profile) (n : ℕ) (checks : List ℕ) (frames : List CodedFrame) (t : Option ℕ) (old : List (Option State)) (old_pasts : List Past) where
   abbrev place : Place
@@ -74,62 +69,6 @@ module _ (p : Profile) (n : ℕ) (checks : List ℕ) (frames : List CodedFrame) 
     pub there : (k : ℕ) → k < j → IsSome (get_or now k None)
     pub three : length now ≡ 3
     pub small : AreBytes bytes
-
-  pub none_yet : length old ≡ 3 → Sending 0 old old_pasts [] []
-  none_yet h = record {
-    force_is = refl;
-    pasts_are = refl;
-    bytes_are = refl;
-    entries_are = refl;
-    words = refl;
-    count_from = omega arith;
-    words_from = λ w. w;
-    most = omega arith;
-    count = refl;
-    later = λ k le. refl;
-    each = λ k lt. absurd (omega (arith, lt));
-    there = λ k lt. absurd (omega (arith, lt));
-    three = h;
-    small = λ i. omega arith;
-  }
-
-  -- all of them were sent
-  module _ (j : ℕ) (now : List (Option State)) (pasts : List Past) (entries : List DirEntry) (bytes : List ℕ) (h : Sending j now pasts entries bytes) (all : j ≡ substreams_of p.channels) where
-    nothing_more : drop j first ≡ []
-    nothing_more = ap (λ (m : ℕ). drop m first) all ∙ none_behind (substreams_of p.channels) old
-
-    none_from : from j pasts ≡ nothing_sent pasts
-    none_from = ap (λ (fs : List (Option State)). segments_from p (restart_in p n checks) frames t j fs pasts) nothing_more
-
-    none_bytes : bytes_from j pasts ≡ []
-    none_bytes = ap (λ (u : SentUnit). segments_bytes place (drop j first) u.segments) none_from
-
-    pub all_sent : IsSentUnit p n checks frames t old old_pasts now pasts entries bytes
-    all_sent = record {
-      force_is = sym (h.force_is ∙ ap (λ (u : SentUnit). take j now ++ u.force) none_from ∙ append-nil (take j now) ∙ ap (λ (m : ℕ). take m now) all);
-      pasts_are = sym (h.pasts_are ∙ ap (λ (u : SentUnit). u.pasts) none_from);
-      entries_are = sym (h.entries_are ∙ ap (λ (bs : List (List ℕ)). entries ++ entries_from sync (length bytes / 2) bs) none_bytes ∙ append-nil entries);
-      bytes_are = sym (h.bytes_are ∙ ap (λ (bs : List (List ℕ)). bytes ++ joined bs) none_bytes ∙ append-nil bytes);
-    }
-
-    pub all_whole : AreWhole p (bytes_from 0 old_pasts)
-    all_whole = record {
-      count = h.count_from ∙ ap (λ (bs : List (List ℕ)). j + length bs) none_bytes ∙ (let z : j + 0 ≡ j = omega arith in z) ∙ all;
-      words = h.words_from (subst (λ (bs : List (List ℕ)). AreWords bs) (sym none_bytes) tt);
-      most =
-          let body : joined (bytes_from 0 old_pasts) ≡ bytes = h.bytes_are ∙ ap (λ (bs : List (List ℕ)). bytes ++ joined bs) none_bytes ∙ append-nil bytes in
-          omega (arith, ap (λ (b : List ℕ). length b) body, h.most, ap (λ (m : ℕ). segments_to p m) all);
-    }
-
-    pub all_in_force : AreInForce p (n + 1) (take (substreams_of p.channels) now)
-    all_in_force =
-        let m : ℕ = substreams_of p.channels in
-        let count : length (take m now) ≡ m = length-take-le m now (omega (arith, substreams_most p.channels, h.three)) in
-        record {
-          count = count;
-          each = λ k lt. subst (λ (o : Option State). IfSome o (IsInForce p k)) (sym (get_or-take m now k None (omega (arith, lt, count)))) (h.each k (omega (arith, lt, count, all)));
-          there = λ e k lt. subst (λ (o : Option State). IsSome o) (sym (get_or-take m now k None (omega (arith, lt, count)))) (h.there k (omega (arith, lt, count, all)));
-        }
 
   module _ (j : ℕ) (now : List (Option State)) (pasts : List Past) (entries : List DirEntry) (bytes : List ℕ) (h : Sending j now pasts entries bytes) (lt : j < substreams_of p.channels) (three : length old ≡ 3) where
     abbrev force : Option State

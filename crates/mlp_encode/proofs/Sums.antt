@@ -9,13 +9,6 @@ abbrev pub sums : (ℕ → ℕ) → ℕ → ℕ → ℕ
 sums f a zero = 0
 sums f a (suc n) = f a + sums f (a + 1) n
 
-pub sums_same : (f g : ℕ → ℕ) (a n : ℕ) → ((i : ℕ) → a ≤ i → i < a + n → f i ≡ g i) → sums f a n ≡ sums g a n
-sums_same f g a zero h = refl
-sums_same f g a (suc n) h =
-    let first = h a (omega arith) (omega arith) in
-    let rest = sums_same f g (a + 1) n (λ i from to. h i (omega (arith, from)) (omega (arith, to))) in
-    omega (arith, first, rest)
-
 pub sums_most : (f : ℕ → ℕ) (b a n : ℕ) → ((i : ℕ) → a ≤ i → i < a + n → f i ≤ b) → sums f a n ≤ n * b
 sums_most f b a zero h = omega arith
 sums_most f b a (suc n) h =

@@ -150,8 +150,6 @@ data_bytes : (size : ℕ) (rest : List ℕ) → AreBytes rest → AreBytes (data
 data_bytes size rest h = All-take (λ (b : ℕ). b < 256) size rest h
 
 module _ (kind : Kind) (mix : Mix) (bytes : List ℕ) (format : Format) (size : ℕ) (rest : List ℕ) (says : Says bytes (begins format size rest)) (are : AreBytes rest) where
-  abbrev ended_well : Result Unit Stop
-  ended_well = Ok tt
 
   by_answer : (output : List ℕ) (f : Format) (n : ℕ) (more : List ℕ) → begins f n more ≡ begins format size rest → checked (profile_in kind mix f) ≡ Ok tt → Encoded (profile_in kind mix f) (Some n) true more (Ok tt) output
       → IsStreamOf (profile_in kind mix format) (data_in (Some size) rest) output

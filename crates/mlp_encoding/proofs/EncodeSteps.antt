@@ -9,12 +9,10 @@ use Rattle.mlp_syntax.specs.declared.refusal.NoRoom.{NoRoom}
 use Rattle.mlp_syntax.specs.declared.refusal.PcmFault.{PcmFault}
 use Rattle.mlp_stream.specs.declared.refusal.Refusal.TheVariants as refused
 use Rattle.mlp_stream.specs.Moves.{Move, Waits, Takes, Refuses}
-use Rattle.mlp_fifo.specs.LeftFifo.{LeftFifo}
-use Rattle.mlp_fifo.specs.Placed.{placed}
 use Rattle.mlp_fold.specs.declared.profile.Profile.{Profile}
 use Rattle.mlp_fold.specs.Profile.{checked}
 use Rattle.mlp_encode.specs.Left.{Going, Left}
-use Rattle.mlp_encode.specs.Unit.{SentUnit, Body, body_of, body_size, unit_sent, sent_at, next_sent, AreNext}
+use Rattle.mlp_encode.specs.Unit.{next_sent, AreNext}
 use Rattle.mlp_encode.specs.Encoding.{answered}
 use Rattle.mlp_encoding.specs.Pcm.{full_size, frames_in, data_in, is_seen}
 use Rattle.mlp_encoding.specs.Encoding.{Encoding, page, less, part_of, is_last, is_open, fault_in, on_sent, on_fault, sends, unit_step, data_step, on_profile, on_left, encode_step, IsEncode}
@@ -141,29 +139,6 @@ module _ (left : Left) (to_come : Option ℕ) (moves : ℕ) (profile : Profile) 
       ok_is e = cc
 
 -- ---- what a unit leaves
-
-abbrev pub LeavesNext : Profile → ℕ → Result (List ℕ × Left) NoRoom → Type 0
-LeavesNext profile units (Ok x) = (g : Going) × (x.1 ≡ Ok g) × (g.profile ≡ profile) × (g.units ≡ units + 1)
-LeavesNext profile units (Err e) = Unit {0}
-
-pub leaves_at : (g : Going) (frames : List (List ℤ)) (s : SentUnit) (body : Body) (r : Result (ℕ × LeftFifo) NoRoom) → LeavesNext g.profile g.units (sent_at g frames s body r)
-leaves_at g frames s body (Ok x) = (_, refl, refl, refl)
-leaves_at g frames s body (Err e) = tt
-
-pub leaves : (left : Left) (moves : ℕ) (profile : Profile) (units : ℕ) (refusal : Option NoRoom) (is : IsEncode profile units moves refusal left) → refusal ≡ None
-    → (rows : List (List ℤ)) (last : Bool) (x : Unit {0}) (out : List ℕ) (new : Left) → next_sent left rows last ≡ answered (Ok x) out new → IsEncode profile (units + 1) (moves + 1) refusal new
-leaves left moves profile units refusal is none rows last x out new sent =
-    let h = is.going none in
-    let at : next_sent (Ok h.0) rows last ≡ Ok (out, new) = ap (λ (l : Left). next_sent l rows last) (sym h.1) ∙ sent in
-    let u = unit_sent h.0 rows last in
-    let b = body_of h.0 u in
-    let next_is = subst (LeavesNext h.0.profile h.0.units) at (leaves_at h.0 rows u b (placed h.0.fifo (body_size b))) in
-    record {
-      passes = is.passes;
-      few = omega (arith, is.few);
-      going = λ z. (next_is.0, next_is.1, next_is.2 ∙ h.2, next_is.3 ∙ ap (λ (n : ℕ). n + 1) h.3);
-      refused = subst (λ (o : Option NoRoom). IfSome o (λ e. new ≡ Err e)) (sym none) tt;
-    }
 
 -- ---- whether it waits
 

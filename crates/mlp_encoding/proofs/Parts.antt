@@ -88,9 +88,6 @@ module _ (p : Profile) (is : AreSizes p) (part : List ℕ) where
         div_below (length front) (frame_size p) (suc (length part / frame_size p)) is.frame_some (omega (arith, front_length, below)),
       )
 
-  pub front_whole : length front % frame_size p ≡ 0
-  front_whole = ap (λ (n : ℕ). n % frame_size p) front_length ∙ mul-mod_left (length part / frame_size p) (frame_size p)
-
   pub front_frames : frames_in p front ≡ frames_in p part
   front_frames =
       ap (λ (n : ℕ). pieces (row_in (sample_size p.depth) p.channels) (frame_size p) n front) front_count

@@ -5,7 +5,6 @@ use Rattle.std.proofs.Math.Seq.{take-append-add}
 use Rattle.std.specs.Io.KnownBytes.{Consumes, IsAtEnd}
 use Rattle.mlp_io.specs.Limit.{limit}
 use Rattle.mlp_syntax.specs.declared.major.Kind.{Kind}
-use Rattle.mlp_syntax.specs.declared.major.Kind.TheVariants.{Fbb, Fba}
 use Rattle.mlp_syntax.specs.declared.refusal.PcmFault.TheVariants as fault
 use Rattle.mlp_syntax.specs.declared.refusal.ProfileFault.{ProfileFault}
 use Rattle.mlp_syntax.specs.declared.refusal.WaveField.{WaveField}
@@ -25,7 +24,6 @@ use Rattle.mlp_pcm.proofs.OneAnswer.{header_known, same_answer}
 use Rattle.mlp_pcm.proofs.MoreBytes.{begins_more, refused_more}
 use Rattle.mlp_fold.specs.declared.profile.Profile.{Profile}
 use Rattle.mlp_fold.specs.declared.profile.Mix.{Mix}
-use Rattle.mlp_fold.specs.declared.profile.Mix.TheVariants.{Split}
 use Rattle.mlp_fold.specs.Profile.{checked}
 use Rattle.mlp_encoding.specs.Pcm.{refusing}
 use Rattle.mlp_encoding.specs.Encoding.{Encoding, encoding, encode_step, encode_last}
@@ -35,11 +33,6 @@ use Rattle.mlp_encoding.specs.Encodes.{Answer, Soon, IsTimely, Does}
 use Rattle.mlp_encoding.specs.Wave.{profile_in, WaveEncoded, encoded, unfit, wrong, cut, waits, EncodesWave, header_failure}
 use Rattle.mlp_encoding.proofs.Answered.{made, none_made}
 use Rattle.mlp_encoding.proofs.Doing.{between, Splits, behind_it, in_it, does, stops_at}
-
--- any profile can be encoded for a start
-pub any_passes : (kind : Kind) → checked (record { kind = kind; rate = 48000; channels = 2; depth = 16; mix = Split }) ≡ Ok tt
-any_passes Fbb = refl
-any_passes Fba = refl
 
 -- ---- the answers of headers
 

@@ -41,9 +41,6 @@ unit_moves s g seen pcm e =
 abbrev opens : Bool → Bool → Bool → Bool → Bool
 opens seen last short clear = not seen && last && (short || clear)
 
-seen_closed : (last short clear : Bool) → opens true last short clear ≡ false
-seen_closed last short clear = refl
-
 long_closed : (seen short clear : Bool) → opens seen false short clear ≡ false
 long_closed true short clear = refl
 long_closed false short clear = refl
@@ -52,9 +49,6 @@ padded_closed : (seen last : Bool) → opens seen last false false ≡ false
 padded_closed true last = refl
 padded_closed false true = refl
 padded_closed false false = refl
-
-pub closed_seen : (p : Profile) (pcm : List ℕ) → is_open p true pcm ≡ false
-closed_seen p pcm = refl
 
 pub closed_long : (p : Profile) (seen : Bool) (pcm : List ℕ) → full_size p < length pcm → is_open p seen pcm ≡ false
 closed_long p seen pcm lt =

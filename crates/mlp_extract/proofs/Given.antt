@@ -1,5 +1,5 @@
 -- A unit that a decoder gave has the segments of its presentation.
-use Rattle.std.proofs.Common.{◌≡◌, ℕ, zero, suc, ◌*◌, ◌<◌, ◌≤◌, not, Bool, List, take, Ok, Err, Option, Some, None, inl, inr, refl, sym, ap, subst, ◌∙◌, arith, ℤ}
+use Rattle.std.proofs.Common.{◌≡◌, ℕ, zero, suc, ◌*◌, ◌<◌, not, Bool, List, take, Ok, Err, Option, Some, None, inl, inr, refl, sym, ap, subst, ◌∙◌, arith, ℤ}
 use Rattle.std.specs.Prelude.{IfSome, min}
 use Rattle.std.proofs.lemmas.Bool.{cases_lt}
 use Rattle.std.proofs.lemmas.List.{length-take}
@@ -20,7 +20,7 @@ use Rattle.mlp_walk.specs.Next.{Taken, next_of}
 use Rattle.mlp_outline.proofs.NextParts.{next_shut}
 use Rattle.mlp_contents.specs.Units.{Left, whole, after}
 use Rattle.mlp_present.specs.Parts.{Next, outer_read}
-use Rattle.mlp_present.specs.Decoding.{Held, opened, after_unit, unless_refused, GivesUnit, KeepsRefusal}
+use Rattle.mlp_present.specs.Decoding.{Held, after_unit, unless_refused, GivesUnit, KeepsRefusal}
 use Rattle.mlp_extract.specs.Extractor.{HoldsPresentation, IsExtracting}
 
 -- ---- the first major sync
@@ -123,6 +123,3 @@ unit_refused k held new r x kept = record {
   begins = λ e. kept.sync ∙ x.begins (sym kept.units ∙ e);
   told = λ some. subst (λ (s : Option MajorSync). k < substreams_of s) (sym kept.sync) (x.told (omega (arith, kept.units, some)));
 }
-
-pub none_taken : (k : ℕ) → k ≤ 2 → IsExtracting k (opened k)
-none_taken k most = record { k_is = refl; most = most; usable = tt; begins = λ e. refl; told = λ some. absurd (omega (arith, some)) }

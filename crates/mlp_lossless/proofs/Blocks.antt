@@ -81,8 +81,6 @@ column_codes rows channels frames k i x lt is n =
 
 module _ (j : ℕ) (p : Profile) (restarts : Bool) (before : Force) (frames : List CodedFrame) (h : IsSendable j p restarts before.state frames)
     (count : length (steps_of p.mix (low_zeros p.depth) j) ≡ last_channel j + 1) (eight : length before.pasts ≡ 8) where
-  abbrev steps : List ℕ
-  steps = steps_of p.mix (low_zeros p.depth) j
 
   abbrev channels : List Sent
   channels = sent_in j p restarts before frames

@@ -9,7 +9,6 @@ use Rattle.mlp_matrix.specs.Matrix.{applied}
 use Rattle.mlp_matrix.specs.Noise.{noise_values, next_seed}
 use Rattle.mlp_output.specs.Output.{noise_in, matrixed, samples_of, placed, placed_each, heard, check_from, check_of}
 use Rattle.mlp_fold.specs.declared.profile.Mix.{Mix}
-use Rattle.mlp_fold.specs.declared.coding.CodedFrame.{CodedFrame}
 use Rattle.mlp_fold.specs.Profile.{AreMixed}
 use Rattle.mlp_fold.specs.Mix.{AreSamples, channels_of, coded_of, coded_frame, presented_of}
 use Rattle.mlp_fold.specs.Rows.{rows_of, steps_of}
@@ -40,9 +39,6 @@ module _ (mix : Mix) (depth channels j : ℕ) (m : AreMixed mix depth channels) 
       ∙ ap (λ (steps : List ℕ). samples_of (replicate (channels_of j) 0) (applied (rows_of mix j channels) steps b (f ++ noise_in s.restart seed))) is.steps
       ∙ ap (λ (noise : List ℤ). samples_of (replicate (channels_of j) 0) (applied (rows_of mix j channels) (steps_of mix (24 - depth) j) b (f ++ noise))) (noise_is seed)
       ∙ samples_shown mix depth channels j x m top h s.restart.noise_shift seed le
-
-  abbrev pub code : List (List ℤ) → List CodedFrame
-  code pcm = map (coded_frame mix (24 - depth) channels) pcm
 
   pub all_heard : (seed : ℕ) (pcm : List (List ℤ)) → All (AreSamples (24 - depth) channels) pcm
       → heard s seed (map (bypass_in (rows_of mix j channels)) (map (coded_frame mix (24 - depth) channels) pcm)) (map (λ f. take (channels_of j) f.values) (map (coded_frame mix (24 - depth) channels) pcm))

@@ -32,8 +32,6 @@ use Rattle.mlp_lossless.proofs.Plain.{IsPlain, restart_plain, restart_channels, 
 -- ---- a block
 
 module _ (j : ℕ) (p : Profile) (restart : Option Restart) (before : Force) (frames : List CodedFrame) (can : CanBlock j p restart before frames) where
-  abbrev block : SentBlock
-  block = block_sent j p restart before frames
 
   pub block_below : (c : ℕ) → c < first_channel j → past_of_channel (block_sent j p restart before frames).behind.pasts c ≡ past_of_channel before.pasts c
   unfolding block_sent

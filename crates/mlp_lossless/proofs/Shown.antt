@@ -143,9 +143,6 @@ module _ (mix : Mix) (depth channels j : ℕ) (x : List ℤ) (m : AreMixed mix d
   abbrev n : ℕ
   n = channels_of j
 
-  abbrev values : List ℤ
-  values = take (channels_of j) (coded_of mix (24 - depth) channels x)
-
   abbrev by_rows : List ℤ → List ℤ
   by_rows ys = applied (rows_of mix j channels) (steps_of mix (24 - depth) j) (bypass_of mix x) ys
 

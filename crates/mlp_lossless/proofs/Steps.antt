@@ -128,9 +128,6 @@ module _ (j : ℕ) (e : Going) (d : Decoded) (frames : List (List ℤ)) (last : 
   abbrev n : ℕ
   n = e.units
 
-  abbrev pcm : List (List ℤ)
-  pcm = filled e.profile frames
-
   abbrev cs : List CodedFrame
   cs = coded e.profile (filled e.profile frames)
 

@@ -21,9 +21,6 @@ module _ {L O C : Type 0} (f : Format L O C) where
   pub record IsTold (wanted : Option ℕ) (o : O) : Type 0 where
     pub told : (k : ℕ) → wanted ≡ Some k → k < f.presentations o
 
-  some_is : (j k : ℕ) → Some j ≡ Some k → j ≡ k
-  some_is j k e = cc
-
   gate_err : (wanted : Option ℕ) (b : Broken) (unit : Answer) → gated f wanted (Err b) unit ≡ unit
   gate_err None b unit = refl
   gate_err (Some k) b unit = refl

@@ -1,18 +1,14 @@
 -- The next unit of a stream of which only the outer parts are read.
-use Rattle.std.proofs.Common.{◌≡◌, ℕ, ◌+◌, ◌*◌, ◌/◌, ◌≤◌, eqb, cond, Bool, true, false, List, take, length, Ok, Err, Option, Some, None, refl, ap, ◌∙◌, arith}
+use Rattle.std.proofs.Common.{◌≡◌, ℕ, ◌+◌, ◌*◌, ◌/◌, eqb, cond, Bool, true, false, List, take, length, Ok, Err, Option, Some, None, refl, ap, ◌∙◌, arith}
 use Rattle.mlp_syntax.specs.declared.fault.Broken.{Broken}
-use Rattle.mlp_syntax.specs.declared.major.FormatInfo.{FormatInfo}
-use Rattle.mlp_syntax.specs.declared.major.FormatInfo.TheVariants as format
 use Rattle.mlp_syntax.specs.declared.major.MajorSync.{MajorSync}
 use Rattle.mlp_syntax.specs.declared.unit.Outer.{Outer}
 use Rattle.mlp_layout.specs.Contents.{nothing}
 use Rattle.mlp_layout.specs.Streams.{outer_fault}
-use Rattle.mlp_major.specs.MajorSync.{most_substreams}
-use Rattle.mlp_unit.specs.AccessUnit.{AccessUnit, major_size, substreams_of}
+use Rattle.mlp_unit.specs.AccessUnit.{AccessUnit, major_size}
 use Rattle.mlp_unit.specs.Directory.{directory_size}
 use Rattle.mlp_unit.specs.Outline.{outline}
 use Rattle.mlp_unit.specs.Shape.{unit_read, unit_with}
-use Rattle.mlp_unit.specs.Written.{FirstUsable}
 use Rattle.mlp_unit.proofs.UnitLaws.{access_unit_size}
 use Rattle.mlp_walk.specs.declared.refusal.Refusal.TheVariants as refused
 use Rattle.mlp_walk.specs.Next.{fault_of, asked, next_of, TakesBytes}
@@ -50,11 +46,3 @@ outline_bytes = record {
 }
 
 -- ---- the first major sync
-
-few_substreams : (f : FormatInfo) → most_substreams f ≤ 4
-few_substreams (format.Fbb f) = omega arith
-few_substreams (format.Fba f) = omega arith
-
-pub first_few : (first : Option MajorSync) → FirstUsable first → substreams_of first ≤ 4
-first_few None u = omega arith
-first_few (Some m) u = omega (arith, u.few, few_substreams m.format)

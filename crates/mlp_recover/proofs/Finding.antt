@@ -3,7 +3,7 @@ use Rattle.std.proofs.Common.{◌≡◌, ℕ, ◌+◌, ◌<◌, ◌≤◌, cond,
 use Rattle.std.specs.Prelude.{All, map}
 use Rattle.std.proofs.lemmas.Bool.{cases_lt, lt-ltb, le-ltb}
 use Rattle.std.proofs.lemmas.List.{append-nil, map-append}
-use Rattle.std.proofs.lemmas.List.Elements.{All-nil, All-push}
+use Rattle.std.proofs.lemmas.List.Elements.{All-push}
 use Rattle.mlp_recover.specs.declared.span.Span.{Span}
 use Rattle.mlp_recover.specs.Interval.{NoneAt}
 use Rattle.mlp_recover.specs.Recovered.{Piece, Lost, Kept, Tile, Apart, IsRight}
@@ -52,20 +52,6 @@ module _ (k : ℕ) (bytes : List ℕ) where
       few = subst (All HasFewFrames) (sym (ap (λ (b : Bool). spans ++ cond b (span_of 0 (Lost told to) ∷ []) []) (le-ltb told to ge) ∙ append-nil spans)) f.few;
     })
   ]
-
-  pub found_none : IsFound k bytes 0 0 []
-  found_none = record {
-    pieces = [];
-    tile = refl;
-    right = λ i d lt. absurd (omega arith);
-    apart = tt;
-    last = tt;
-    spans_are = refl;
-    few = All-nil HasFewFrames;
-    none = λ place low high. absurd (omega arith);
-    order = omega arith;
-    within = omega arith;
-  }
 
   -- no interval begins at the next sync
   pub found_lost : (told at first : ℕ) (spans : List Span) → IsFound k bytes told at spans → at ≤ first → first < length bytes → NoSyncIn bytes at first → NoneAt k bytes first → IsFound k bytes told (first + 1) spans

@@ -1,7 +1,7 @@
 -- Where an interval begins a sync stands.
-use Rattle.std.proofs.Common.{◌≡◌, ◌≢◌, ℕ, ◌+◌, ◌*◌, ◌/◌, ◌%◌, ◌<◌, ◌≤◌, ◌&&◌, leb, eqb, Bool, true, false, List, [], ◌∷◌, ◌++◌, length, take, drop, Option, Some, None, refl, sym, ap, ◌∙◌, arith, append_assoc, length-drop}
+use Rattle.std.proofs.Common.{◌≡◌, ◌≢◌, ℕ, ◌+◌, ◌*◌, ◌/◌, ◌%◌, ◌≤◌, ◌&&◌, leb, eqb, Bool, true, false, List, [], ◌∷◌, ◌++◌, length, take, drop, Option, Some, None, refl, sym, ap, ◌∙◌, arith, append_assoc, length-drop}
 use Rattle.std.specs.Prelude.{is_some}
-use Rattle.std.proofs.lemmas.Bool.{le-leb, lt-leb, eq-eqb}
+use Rattle.std.proofs.lemmas.Bool.{le-leb, eq-eqb}
 use Rattle.std.proofs.lemmas.List.{drop-drop, drop_at, take-append-drop}
 use Rattle.mlp_syntax.specs.declared.major.MajorSync.{MajorSync}
 use Rattle.mlp_bits.specs.Bits.{bits, bits_of, number}
@@ -76,9 +76,6 @@ sync_there : (bytes : List ℕ) (place : ℕ) → place + 8 ≤ length bytes →
 sync_there bytes place le looks =
     let room : leb (place + 8) (length bytes) ≡ true = le-leb _ _ le in
     ap (λ (b : Bool). b && next_is 31 sync (drop (8 * place + 32) (bits_of bytes))) room ∙ ap (next_is 31 sync) (behind_place bytes place) ∙ looks
-
-pub no_room : (bytes : List ℕ) (place : ℕ) → length bytes < place + 8 → has_sync_at bytes place ≡ false
-no_room bytes place lt = ap (λ (b : Bool). b && next_is 31 sync (drop (8 * place + 32) (bits_of bytes))) (lt-leb (place + 8) (length bytes) lt)
 
 -- what a word of eight bytes says
 pub word_says : (bytes : List ℕ) (place word : ℕ) → place + 8 ≤ length bytes → drop (8 * place) (bits_of bytes) ≡ bits 64 word ++ drop (8 * place + 64) (bits_of bytes)

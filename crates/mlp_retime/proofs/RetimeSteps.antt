@@ -81,9 +81,6 @@ placed_keeps left bytes time behind e = placed_by _ left bytes time _ _ behind e
 pub first_is : (o : Option (Bor MajorSync)) (b : Bor MajorSync) (sync : Option MajorSync) → o ≡ Some b → option_copied o ≡ sync → Some b.now ≡ sync
 first_is o b sync e copied = ap (λ (x : Option (Bor MajorSync)). option_copied x) (sym e) ∙ copied
 
-some_is : (a b : MajorSync) → Some a ≡ Some b → a ≡ b
-some_is a b e = cc
-
 module _ (held : Held) (fifo : LeftFifo) (refusal : Option Refusal) (none : refusal ≡ None) (t : IsTop held) (buffer : 0 < held.units → IsBuffer held fifo)
     (bytes : List ℕ) (new : Held) (size : ℕ) (g : TakesTop held bytes size new) (first : MajorSync) (is_first : Some first ≡ new.left.sync) (number : ℕ) (counted : number ≡ held.units) where
   abbrev sync : Option MajorSync

@@ -1,5 +1,5 @@
 -- The top presentation has all channels, and shows the frames themselves.
-use Rattle.std.proofs.Common.{◌≡◌, ℕ, zero, suc, ◌+◌, ◌-◌, ◌*◌, ◌<◌, ◌≤◌, min, true, List, [], ◌∷◌, ◌++◌, length, map, drop, Option, None, Some, Ok, ◌⊎◌, inl, inr, refl, sym, ap, subst, ◌∙◌, arith}
+use Rattle.std.proofs.Common.{◌≡◌, ℕ, zero, suc, ◌+◌, ◌-◌, ◌*◌, ◌<◌, min, true, List, [], ◌∷◌, ◌++◌, length, map, drop, Option, None, Some, Ok, ◌⊎◌, inl, inr, refl, sym, ap, subst, ◌∙◌, arith}
 use Rattle.std.proofs.lemmas.Bool.Decides.{nat_tests}
 use Rattle.mlp_syntax.specs.declared.major.Kind.{Kind}
 use Rattle.mlp_syntax.specs.declared.major.Kind.TheVariants.{Fbb, Fba}
@@ -48,11 +48,6 @@ shown_whole : (width n : ℕ) (bytes : List ℕ) → (n ≡ 2) ⊎ ((n ≡ 6) �
 shown_whole width n bytes (inl e) = subst (λ (m : ℕ). shown m (row_in width m bytes) ≡ row_in width m bytes) (sym e) (shown_two width bytes)
 shown_whole width n bytes (inr (inl e)) = subst (λ (m : ℕ). shown m (row_in width m bytes) ≡ row_in width m bytes) (sym e) (shown_six width bytes)
 shown_whole width n bytes (inr (inr e)) = subst (λ (m : ℕ). shown m (row_in width m bytes) ≡ row_in width m bytes) (sym e) (shown_eight width bytes)
-
-few_there : (n : ℕ) → (n ≡ 2) ⊎ ((n ≡ 6) ⊎ (n ≡ 8)) → n ≤ 8
-few_there n (inl e) = omega (arith, e)
-few_there n (inr (inl e)) = omega (arith, e)
-few_there n (inr (inr e)) = omega (arith, e)
 
 all_stay : {A : Type 0} (f : A → A) (value : List ℕ → A) (size n : ℕ) (bytes : List ℕ) → ((bs : List ℕ) → f (value bs) ≡ value bs) → map f (pieces value size n bytes) ≡ pieces value size n bytes
 unfolding pieces

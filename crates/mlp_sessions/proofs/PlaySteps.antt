@@ -22,9 +22,6 @@ stepped_at refusal held s next = stepped (whole s.held.k) (Some s.held.k) is_ope
 abbrev given_move : Player → ℕ → Result (List ℕ × Player) Refusal → Move Player
 given_move s size x = on_given (whole s.held.k) (Some s.held.k) is_open_behind decode_reader size x
 
-ok_next : Taken AccessUnit (List Segment) → Next
-ok_next t = Ok t
-
 err_next : Declined → Next
 err_next e = Err e
 

@@ -1,20 +1,14 @@
 -- What a run says.
-use Rattle.std.proofs.Common.{◌≡◌, ◌==◌, ℕ, List, length, take, Bool, Result, Ok, Err, Option, OnOk, IfErr, refl, sym, subst, arith}
+use Rattle.std.proofs.Common.{ℕ, List, length, take, Bool, Result, Ok, Err, Option, OnOk, IfErr, sym, subst, arith}
 use Rattle.std.proofs.lemmas.List.{take_all}
 use Rattle.std.specs.Io.KnownBytes.{Appends}
 use Rattle.mlp_io.specs.Causes.{HasCause}
 use Rattle.mlp_io.specs.declared.sink.PutFailed.{PutFailed}
 use Rattle.mlp_stream.specs.declared.refusal.Refusal.{Refusal}
-use Rattle.mlp_stream.specs.declared.refusal.Refusal.TheVariants.{Fault, Pcm, NoRoom, NoPresentation, LowBits, NoRestart, NotThere}
 use Rattle.mlp_stream.specs.declared.stop.Stop.{Stop}
-use Rattle.mlp_stream.specs.declared.stop.Stop.TheVariants.{Refused, ReadFault, WriteFault, TooLong}
 use Rattle.mlp_stream.specs.Sides.{Side}
 use Rattle.mlp_stream.specs.Moves.{Move}
 use Rattle.mlp_stream.specs.Pumped.{Pumped}
-use Rattle.mlp_answers.specs.declared.failure.Failure.{Failure}
-use Rattle.mlp_answers.specs.declared.failure.Failure.TheVariants.{Usage, OutOfMemory, Stopped}
-use Rattle.mlp_answers.specs.Failures.{is_read_failure, is_write_failure}
-use Rattle.mlp_tool.specs.Lines.{status_of}
 use Rattle.mlp_tool.specs.Run.{Told, TakesFew}
 
 pub told : (line : List ℕ) (before now : ℕ) (a b : Option (List ℕ)) (r : Result Unit PutFailed) → OnOk r (Appends a b line)
@@ -25,34 +19,3 @@ told line before now a b (Err e) ok err cause = record { front = (e.written, err
 -- a session takes no more bytes than one past the limit
 pub pumped_few : {S : Type 0} (step : S → Bool → List ℕ → Move S) (last : S → Result (List ℕ) Refusal) (s t : S) (input output : Side) (end : Result Unit Stop) → Pumped step last 0 s t input output end → TakesFew input
 pumped_few step last s t input output end p = (p.taken, p.reads, omega (arith, p.few))
-
--- a read failed exactly where the status is 5, and a write where it is 6
-pub read_failure : (end : Result Unit Failure) → is_read_failure end ≡ (status_of end == 5)
-read_failure (Ok x) = refl
-read_failure (Err Usage) = refl
-read_failure (Err OutOfMemory) = refl
-read_failure (Err (Stopped (Refused (Fault fault)))) = refl
-read_failure (Err (Stopped (Refused (Pcm fault)))) = refl
-read_failure (Err (Stopped (Refused (NoRoom unit)))) = refl
-read_failure (Err (Stopped (Refused (NoPresentation have)))) = refl
-read_failure (Err (Stopped (Refused (LowBits frame)))) = refl
-read_failure (Err (Stopped (Refused (NoRestart unit)))) = refl
-read_failure (Err (Stopped (Refused (NotThere units)))) = refl
-read_failure (Err (Stopped ReadFault)) = refl
-read_failure (Err (Stopped WriteFault)) = refl
-read_failure (Err (Stopped TooLong)) = refl
-
-pub write_failure : (end : Result Unit Failure) → is_write_failure end ≡ (status_of end == 6)
-write_failure (Ok x) = refl
-write_failure (Err Usage) = refl
-write_failure (Err OutOfMemory) = refl
-write_failure (Err (Stopped (Refused (Fault fault)))) = refl
-write_failure (Err (Stopped (Refused (Pcm fault)))) = refl
-write_failure (Err (Stopped (Refused (NoRoom unit)))) = refl
-write_failure (Err (Stopped (Refused (NoPresentation have)))) = refl
-write_failure (Err (Stopped (Refused (LowBits frame)))) = refl
-write_failure (Err (Stopped (Refused (NoRestart unit)))) = refl
-write_failure (Err (Stopped (Refused (NotThere units)))) = refl
-write_failure (Err (Stopped ReadFault)) = refl
-write_failure (Err (Stopped WriteFault)) = refl
-write_failure (Err (Stopped TooLong)) = refl

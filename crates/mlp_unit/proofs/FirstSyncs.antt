@@ -38,11 +38,6 @@ by_format a (format.Fba f) = refl
 abbrev told : MajorSync → Kind → ℕ → ℕ → MajorSync
 told m k rate substreams = record m { format = form k rate; substreams = substreams }
 
-kind_is : (k : Kind) (r : ℕ) → kind_of (form k r) ≡ k
-unfolding form
-kind_is kind.Fbb r = refl
-kind_is kind.Fba r = refl
-
 by_told : (a b : MajorSync) (k : Kind) (rate substreams : ℕ) → access_unit (Some (told a k rate substreams)) ≡ access_unit (Some (told b k rate substreams))
 unfolding access_unit parts behind_sync major_sync judged_sync
 by_told a b k rate substreams = refl

@@ -23,9 +23,6 @@ stopped stop = Err stop
 ended_stopped : (stop : Stop) → ended ≡ stopped stop → ⊥
 ended_stopped stop e = cc
 
-stop_is : (d e : Stop) → stopped d ≡ stopped e → d ≡ e
-stop_is d e h = cc
-
 module _ (k bits : ℕ) where
   -- what is decoded to the end is units
 

@@ -17,13 +17,6 @@ use Rattle.mlp_answers.specs.Failures.{failure_by, end_of}
 use Rattle.mlp_wave.specs.WaveFile.{wave_file, most_of_samples, stated_channels, stated_rate, PutFile}
 use Rattle.mlp_wave.specs.Saved.{Saves, fits, too_many, stops, Begun, Wrote, Saved}
 
-some_of : List ℕ → Option (List ℕ)
-some_of xs = Some xs
-
-some_is : (xs ys : List ℕ) → some_of xs ≡ some_of ys → xs ≡ ys
-unfolding some_of
-some_is xs ys e = cc
-
 nothing_put : (before behind : Option (List ℕ)) → behind ≡ before → Appends before behind []
 nothing_put None behind e = tt
 nothing_put (Some xs) behind e = subst (λ (o : Option (List ℕ)). Appends (Some xs) o []) (sym e) (sym (append-nil xs))
