@@ -26,7 +26,13 @@ abbrev pub opened : ℕ → ℕ → Held
 opened f c = held_with f c nothing_read
 
 abbrev pub after_unit : Held → Taken AccessUnit (Unit {0}) → Held
-after_unit held t = record { first = held.first; count = held.count; read = after_outline held.read (Ok t); refusal = held.refusal }
+after_unit held t = record {
+  first = held.first;
+  count = held.count;
+  read =
+      after_outline held.read (Ok t);
+  refusal = held.refusal;
+}
 
 abbrev pub with_after : Held → Taken AccessUnit (Unit {0}) → Result (List ℕ) Refusal → Result (List ℕ × Held) Refusal
 with_after held t (Ok out) = Ok (out, after_unit held t)
@@ -42,7 +48,8 @@ reader = record {
   left = λ held. held.read.first;
   count = λ held. held.read.units;
   refusal = λ held. refused held.refusal held.read.refusal;
-  gives = λ held t. with_after held t (cut_out held.first held.count held.read.units t.unit.outer.major (unit_bytes t.unit.outer));
+  gives = λ held t. with_after held t
+      (cut_out held.first held.count held.read.units t.unit.outer.major (unit_bytes t.unit.outer));
 }
 
 abbrev pub cut_step : Held → Bool → List ℕ → Move Held

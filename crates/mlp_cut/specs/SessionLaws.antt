@@ -34,12 +34,17 @@ given x = Ok x
 given_is : (x y : List ℕ × Held) → given x ≡ given y → x ≡ y
 given_is x y e = cc
 
-counted : (s t : Held) (u : Taken AccessUnit (Unit {0})) (out : List ℕ) (r : Result (List ℕ) Refusal) → with_after s u r ≡ Ok (out, t) → t.read.units ≡ s.read.units + 1
-counted s t u out (Ok xs) e = ap (λ (x : List ℕ × Held). x.1.read.units) (sym (given_is (xs, after_unit s u) (out, t) e))
+counted : (s t : Held) (u : Taken AccessUnit (Unit {0})) (out : List ℕ)
+    (r : Result (List ℕ) Refusal) → with_after s u r ≡ Ok (out, t) → t.read.units ≡ s.read.units + 1
+counted s t u out (Ok xs) e = ap (λ (x : List ℕ × Held). x.1.read.units)
+    (sym (given_is (xs, after_unit s u) (out, t) e))
 counted s t u out (Err r) e = absurd cc
 
 reader_is : IsReader outline None is_open_outline reader
-reader_is = record { counts = λ s t u out e. counted s t u out (cut_out s.first s.count s.read.units u.unit.outer.major (unit_bytes u.unit.outer)) e }
+reader_is = record {
+  counts = λ s t u out e. counted s t u out
+      (cut_out s.first s.count s.read.units u.unit.outer.major (unit_bytes u.unit.outer)) e;
+}
 
 pub cut_lawful : IsSession cut_step cut_count
 cut_lawful = read_lawful outline None is_open_outline reader outline_is outline_bytes outline_open reader_is

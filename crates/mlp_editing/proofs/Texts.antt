@@ -58,7 +58,8 @@ module _ (k : ℕ) (bytes : List ℕ) (us : List Unit_of) (few : length bytes �
   one : (end : Result Unit Stop) (put : List ℕ) → Answer (playing k 24) bytes end put → (end ≡ Ok tt) × (put ≡ decoded k 24 us)
   one end put a = (writes_all k bytes us few stream).only end put a
 
-  puts_by : (input output : Side) (taken put : List ℕ) (end : Result Unit Stop) → input.before ≡ Some bytes → (is_read_fault end ≡ true → ⊥) → Appends output.before output.behind put → Wrote (playing k 24) input taken put end → Puts output (decoded k 24 us) end
+  puts_by : (input output : Side) (taken put : List ℕ) (end : Result Unit Stop) → input.before ≡ Some bytes → (is_read_fault end ≡ true → ⊥) → Appends output.before output.behind put
+      → Wrote (playing k 24) input taken put end → Puts output (decoded k 24 us) end
   puts_by input output taken put (Ok x) same free w wrote =
       let a = subst (λ (o : Option (List ℕ)). IfSome o (λ all. Answer (playing k 24) all (Ok tt) put)) same wrote.1 in
       subst (Appends output.before output.behind) (one (Ok tt) put a).1 w

@@ -66,7 +66,8 @@ times_most l b h (suc n) (x ∷ xs) =
     let rest = times_most l b h n xs in
     omega (arith, rest, h x, length-append (l.spelling x) ((times n l).spelling xs))
 
-pub each_long : {S A : Type 0} (l : S → Layout A) (all : List S) (d : S) (f : ℕ → A) (a n : ℕ) → a + n ≡ length all → length ((each l (drop a all)).spelling (map f (range_with_len a n))) ≡ sums (λ c. length ((l (get_or all c d)).spelling (f c))) a n
+pub each_long : {S A : Type 0} (l : S → Layout A) (all : List S) (d : S) (f : ℕ → A) (a n : ℕ) → a + n ≡ length all
+    → length ((each l (drop a all)).spelling (map f (range_with_len a n))) ≡ sums (λ c. length ((l (get_or all c d)).spelling (f c))) a n
 unfolding each item made
 each_long {S} l all d f a zero e = ap (λ (ss : List S). length ((each l ss).spelling [])) (drop_all a all (omega (arith, e)))
 each_long {S} l all d f a (suc n) e =

@@ -162,7 +162,8 @@ module _ (j : ℕ) (p : Profile) (restarts : Bool) (s : State) (pasts : List Pas
 
   -- ---- frames
 
-  all_codes : (i : ℕ) → length ((codes_layout (channel_codes (drop s.restart.min (after j p restarts s pasts frames h).channels.items) (drop s.restart.min (after j p restarts s pasts frames h).steps.items))).spelling (map (λ (y : Sent). get_or y.codes i nothing) (sent_in j p restarts before frames)))
+  all_codes : (i : ℕ) → length ((codes_layout (channel_codes (drop s.restart.min (after j p restarts s pasts frames h).channels.items)
+      (drop s.restart.min (after j p restarts s pasts frames h).steps.items))).spelling (map (λ (y : Sent). get_or y.codes i nothing) (sent_in j p restarts before frames)))
       ≡ sums (λ c. code_bits i c) from count
   all_codes i =
       let ks : List ChannelCode = map (coding j p restarts s pasts frames h) (range_with_len from count) in
@@ -174,7 +175,8 @@ module _ (j : ℕ) (p : Profile) (restarts : Bool) (s : State) (pasts : List Pas
       ∙ codes_long (coding j p restarts s pasts frames h) (λ (c : ℕ). get_or (sent c).codes i nothing) ks from count 0 [] refl
       (λ d l. let z : 0 + d ≡ d = omega arith in ap (λ (m : ℕ). get_or ks m no_code) z ∙ get_or-map-range_with_len (coding j p restarts s pasts frames h) from count d (from + d) no_code l refl)
 
-  frame_bits : (i : ℕ) → length ((frame (coding_of (after j p restarts s pasts frames h))).spelling (frame_code (after j p restarts s pasts frames h).rows.items (sent_in j p restarts before frames) frames i)) ≤ bypass_size p.mix j + sums (λ c. code_bits i c) from count
+  frame_bits : (i : ℕ) → length ((frame (coding_of (after j p restarts s pasts frames h))).spelling
+      (frame_code (after j p restarts s pasts frames h).rows.items (sent_in j p restarts before frames) frames i)) ≤ bypass_size p.mix j + sums (λ c. code_bits i c) from count
   unfolding frame part made
   frame_bits i =
       let t : State = after j p restarts s pasts frames h in
@@ -208,11 +210,13 @@ module _ (j : ℕ) (p : Profile) (restarts : Bool) (s : State) (pasts : List Pas
   cost_at c le =
       let k = h.codable in
       let long : length (column c frames) ≡ length frames = length-map frames (λ (f : CodedFrame). get_or f.values c (pos 0)) in
-      let cost = channel_cost (channel_at s c) (past_of_channel pasts c) (get_or steps c 0) (not restarts) (column c frames) (k.states c le) (k.steps_small c le) (k.samples c) (k.whole c le) (λ e. (k.absent e c le).0) (λ e. (k.absent e c le).1) in
+      let cost = channel_cost (channel_at s c) (past_of_channel pasts c) (get_or steps c 0) (not restarts) (column c frames) (k.states c le) (k.steps_small c le) (k.samples c) (k.whole c le)
+      (λ e. (k.absent e c le).0) (λ e. (k.absent e c le).1) in
       subst (λ (n : ℕ). parameters c + sums (λ i. code_bits i c) 0 n ≤ 34 + 26 * n) long cost
 
   -- parameters and frames
-  pub body_bits : length ((params s).spelling written) + length ((frames_of (after j p restarts s pasts frames h) (length frames)).spelling (codes_in (after j p restarts s pasts frames h).rows.items (sent_in j p restarts before frames) frames))
+  pub body_bits : length ((params s).spelling written) + length ((frames_of (after j p restarts s pasts frames h) (length frames)).spelling
+      (codes_in (after j p restarts s pasts frames h).rows.items (sent_in j p restarts before frames) frames))
       ≤ 12 + rows_given restarts p.mix j + steps_given restarts p.mix j + bypass_size p.mix j * length frames + count * (34 + 26 * length frames)
   body_bits =
       let f : ℕ → ℕ = λ c. sums (λ i. code_bits i c) 0 (length frames) in

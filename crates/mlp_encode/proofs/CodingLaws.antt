@@ -192,7 +192,8 @@ module _ (force : ChannelState) (past : Past) (step : ℕ) (samples : List ℤ) 
       ∙ ap (λ (p : Past). let x : Sent = record { given = g; codes = map (code_by c.book (c.low - step) c.offset step) (residuals_for past step samples c.filter pair); past = p } in x) past_is
 
 -- the same of the choice that is taken
-pub channel_is : (force : ChannelState) (past : Past) (step : ℕ) (filters : Bool) (samples : List ℤ) (c : Choice) (pair : Pair) → IsChannelState force → c ≡ chosen force past step filters samples → pair_of force step samples c.filter ≡ Some pair
+pub channel_is : (force : ChannelState) (past : Past) (step : ℕ) (filters : Bool) (samples : List ℤ) (c : Choice) (pair : Pair) → IsChannelState force → c ≡ chosen force past step filters samples
+    → pair_of force step samples c.filter ≡ Some pair
     → channel_sent force past step filters samples
     ≡ record { given = given_by force step samples c; codes = map (code_by c.book (c.low - step) c.offset step) (residuals_for past step samples c.filter pair); past = past_behind past samples c.filter pair }
 unfolding channel_sent

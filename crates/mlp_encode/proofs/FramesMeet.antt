@@ -60,4 +60,5 @@ series_meets l (suc n) before (x ∷ xs) e h f = (h x f.0, series_meets l n (bef
 -- frames that fit can be written
 pub frames_meet : (s : State) (n : ℕ) (fs : List FrameCode) → (frames_of s n).Fits fs → (frames_of s n).Meets fs
 unfolding frames_of coded_frames frame part
-frames_meet s n fs f = series_meets (frame (coding_of s)) n [] fs (series-length (λ _. frame (coding_of s)) n [] fs f) (λ x fits. frame_meets (coding_of s) x (series-length (code_at (coding_of s).channels.items) (length (coding_of s).channels.items) [] x.codes.items fits.1.0)) f
+frames_meet s n fs f = series_meets (frame (coding_of s)) n [] fs (series-length (λ _. frame (coding_of s)) n [] fs f)
+    (λ x fits. frame_meets (coding_of s) x (series-length (code_at (coding_of s).channels.items) (length (coding_of s).channels.items) [] x.codes.items fits.1.0)) f

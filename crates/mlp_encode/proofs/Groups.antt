@@ -19,7 +19,8 @@ holds true e = refl
 holds false e = absurd cc
 
 -- a value for each item of a list from one on
-pub each_over : {S A : Type 0} (l : S → Layout A) (all : List S) (d : S) (f : ℕ → A) (a n : ℕ) → a + n ≡ length all → ((i : ℕ) → i < length all → Allowed (l (get_or all i d)) (f i)) → Allowed (each l (drop a all)) (map f (range_with_len a n))
+pub each_over : {S A : Type 0} (l : S → Layout A) (all : List S) (d : S) (f : ℕ → A) (a n : ℕ) → a + n ≡ length all → ((i : ℕ) → i < length all → Allowed (l (get_or all i d)) (f i))
+    → Allowed (each l (drop a all)) (map f (range_with_len a n))
 unfolding each item made
 each_over {S} l all d f a zero e h = subst (λ (ss : List S). Allowed (each l ss) []) (sym (drop_all a all (omega (arith, e)))) (record { fits = refl; meets = tt })
 each_over {S} l all d f a (suc n) e h =

@@ -139,7 +139,8 @@ pub sources_are : (j : ℕ) (r : Restart) → HasChannels j r → sources r ≡ 
 sources_are j r h = ap (λ (m : ℕ). m + 1 + (if r.kind == 0 then 2 else 0)) h.max_matrix ∙ ap (λ (k : ℕ). last_channel j + 1 + (if k == 0 then 2 else 0)) h.kind
 
 -- a row of substream j
-row_in : (j : ℕ) (r : Restart) → HasChannels j r → (dest frac : ℕ) (bypass : Bool) (cs : List (Option ℤ)) → dest ≤ last_channel j → dest < 2 ^ 4 → frac ≤ 14 → length cs ≡ sources_in j → AllFit (frac + 2) cs → Allowed (row_layout r) (row dest frac bypass cs)
+row_in : (j : ℕ) (r : Restart) → HasChannels j r → (dest frac : ℕ) (bypass : Bool) (cs : List (Option ℤ)) → dest ≤ last_channel j → dest < 2 ^ 4 → frac ≤ 14 → length cs ≡ sources_in j
+    → AllFit (frac + 2) cs → Allowed (row_layout r) (row dest frac bypass cs)
 row_in j r h dest frac bypass cs d few f count fit = row_allowed r dest frac bypass cs (omega (arith, d, h.max_matrix)) few f (count ∙ sym (sources_are j r h)) fit
 
 one : HasBits 2 (pos 1)

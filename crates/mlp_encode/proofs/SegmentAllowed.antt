@@ -62,7 +62,14 @@ module _ (place : Place) (force : Option State) (s : Segment) (bs : List Block) 
     padding_there : (n : ℕ) → s.padding < 2 ^ n
     padding_there n = let some = pow_pos n in omega (arith, p.no_padding, some)
 
-    made_there : record { blocks = record { items = heads_of (nested s.blocks.items s.codes.items) }; codes = record { items = codes_of (nested s.blocks.items s.codes.items) }; padding = s.padding; terminator = s.terminator; checked = true } ≡ s
+    made_there : record {
+      blocks = record { items = heads_of (nested s.blocks.items s.codes.items) };
+      codes = record { items = codes_of (nested s.blocks.items s.codes.items) };
+      padding =
+          s.padding;
+      terminator = s.terminator;
+      checked = true;
+    } ≡ s
     made_there =
         ap (λ (xs : List Block). let x : Segment = record { blocks = record { items = heads_of xs }; codes = record { items = codes_of xs }; padding = s.padding; terminator = s.terminator; checked = true } in x) p.nested_are
         ∙ ap (λ xs. let x : Segment = record { blocks = record { items = xs }; codes = record { items = codes_of bs }; padding = s.padding; terminator = s.terminator; checked = true } in x) p.heads_are

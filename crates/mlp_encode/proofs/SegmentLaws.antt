@@ -26,7 +26,8 @@ module _ (j : ℕ) (p : Profile) (pasts : List Past) (frames : List CodedFrame) 
   each_sent P None (Some s) h f = f (later_sent j p (record { state = s; pasts = pasts }) frames t) refl
   each_sent P None None h f = absurd (let t : false ≡ true = h.there refl in cc)
 
-  sent_itself : (o : Option Restart) (state : Option State) (s : SentSegment) → segment_sent j p o state pasts frames t ≡ Some s → IsSomeAnd (segment_sent j p o state pasts frames t) (λ x. IsSentSegment x s.segment (Some s.behind.state) s.behind.pasts)
+  sent_itself : (o : Option Restart) (state : Option State) (s : SentSegment) → segment_sent j p o state pasts frames t ≡ Some s
+      → IsSomeAnd (segment_sent j p o state pasts frames t) (λ x. IsSentSegment x s.segment (Some s.behind.state) s.behind.pasts)
   sent_itself o state s e =
       let is : IsSentSegment s s.segment (Some s.behind.state) s.behind.pasts = record { segment_is = refl; force_is = refl; pasts_are = refl } in
       subst (λ (x : Option SentSegment). IsSomeAnd x (λ x. IsSentSegment x s.segment (Some s.behind.state) s.behind.pasts)) (sym e) is

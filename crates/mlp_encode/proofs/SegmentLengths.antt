@@ -51,7 +51,8 @@ module _ (place : Place) (force : Option State) (o : Option Restart) (s : State)
   abbrev h : BlockHead
   h = record { restart = o; params = written; frames = n }
 
-  head_most : (r p : ℕ) → ((x : Restart) → o ≡ Some x → length ((restart place.format).spelling x) ≤ r) → ((q : Params) → written ≡ Some q → length ((params s).spelling q) ≤ p) → length ((head place unknown due force).spelling h) ≤ 2 + r + p
+  head_most : (r p : ℕ) → ((x : Restart) → o ≡ Some x → length ((restart place.format).spelling x) ≤ r) → ((q : Params) → written ≡ Some q → length ((params s).spelling q) ≤ p)
+      → length ((head place unknown due force).spelling h) ≤ 2 + r + p
   unfolding head behind_flags part made
   head_most r p hr hp =
       let a = (flags due).spelling (is_some written, is_some o) in
@@ -109,7 +110,8 @@ block_most place force j p o before frames so_far due h state_is small =
     let is : given (given_in j p (is_some o) before frames) s ≡ applied s written = given_applies (is_some o) written s refl refl in
     let same = ap f is in
     let body = body_bits j p (is_some o) s before.pasts frames h in
-    let all = block_parts_most place force o s (given_in j p (is_some o) before frames) (codes_in (behind_params (given_in j p (is_some o) before frames) s).rows.items (sent_in j p (is_some o) before frames) frames) (length frames) so_far due state_is
+    let all = block_parts_most place force o s (given_in j p (is_some o) before frames)
+    (codes_in (behind_params (given_in j p (is_some o) before frames) s).rows.items (sent_in j p (is_some o) before frames) frames) (length frames) so_far due state_is
     (restart_size (is_some o) j) (length ((params s).spelling written))
     (λ x e. let m = restart_most place.format x in let some = ap (λ (q : Option Restart). restart_size (is_some q) j) e in omega (arith, m, small x e, some))
     (λ q e. let eq = ap (λ (y : Params). length ((params s).spelling y)) (given_some (is_some o) written q e) in omega (arith, eq)) in
@@ -121,7 +123,8 @@ one_long : (place : Place) (at : BlockContext) (a : Block) → length ((blocks_f
 unfolding up_to_last item part chosen made
 one_long place at a = omega (arith, flag_long true, length-append ((block place unknown at).spelling a) (flag.spelling true ++ []), length-append (flag.spelling true) [])
 
-two_long : (place : Place) (at : BlockContext) (a b : Block) → length ((blocks_from place unknown most_blocks at).spelling (a ∷ b ∷ [])) ≡ length ((block place unknown at).spelling a) + length ((block place unknown (after_block place at a)).spelling b) + 2
+two_long : (place : Place) (at : BlockContext) (a b : Block) → length ((blocks_from place unknown most_blocks at).spelling (a ∷ b ∷ []))
+    ≡ length ((block place unknown at).spelling a) + length ((block place unknown (after_block place at a)).spelling b) + 2
 unfolding up_to_last item part chosen made
 two_long place at a b =
     let x = (block place unknown at).spelling a in
@@ -174,7 +177,8 @@ module _ (j : ℕ) (p : Profile) (which : j ≤ 2) (frames : List CodedFrame) (t
   unfolding block_sent
   codes_count o before fs = codes_in_count (behind_params (given_in j p (is_some o) before fs) before.state).rows.items (sent_in j p (is_some o) before fs) fs
 
-  pub later_bits : (before : Force) → IsSendable j p false before.state frames → length ((segment (place_in p false) unknown (Some before.state) true).spelling (later_sent j p before frames t).segment) ≤ segment_size p.mix j (unit_of p.rate)
+  pub later_bits : (before : Force) → IsSendable j p false before.state frames
+      → length ((segment (place_in p false) unknown (Some before.state) true).spelling (later_sent j p before frames t).segment) ≤ segment_size p.mix j (unit_of p.rate)
   unfolding later_sent heads_of codes_of AllFramesFit
   later_bits before h =
       let b : SentBlock = block_sent j p None before frames in

@@ -77,7 +77,8 @@ module _ (j : ℕ) (p : Profile) where
 
   -- ---- with a restart
 
-  module _ (r : Restart) (pasts : List Past) (frames : List CodedFrame) (t : Option ℕ) (force : Option State) (allowed : Allowed (restart p.kind) r) (long : 40 ≤ length frames) (count : length frames ≡ unit_of p.rate) (end : IsEnd p t) where
+  module _ (r : Restart) (pasts : List Past) (frames : List CodedFrame) (t : Option ℕ) (force : Option State) (allowed : Allowed (restart p.kind) r) (long : 40 ≤ length frames)
+      (count : length frames ≡ unit_of p.rate) (end : IsEnd p t) where
     abbrev begun : Force
     begun = restarted j p r pasts
 
@@ -93,7 +94,8 @@ module _ (j : ℕ) (p : Profile) where
 
       first_parts : BlockParts (place_in p true) force (Some r) begun.state (given_in j p true begun (take 8 frames)) first.codes (length (take 8 frames)) 0 true
       first_parts =
-          sent_parts j p (Some r) begun (take 8 frames) (place_in p true) force 0 true h1 flags_restart (λ q e. let same : r ≡ q = cc in subst (λ (x : Restart). Allowed (restart p.kind) x) same allowed) refl (omega (arith, eight, long, count))
+          sent_parts j p (Some r) begun (take 8 frames) (place_in p true) force 0 true h1 flags_restart
+          (λ q e. let same : r ≡ q = cc in subst (λ (x : Restart). Allowed (restart p.kind) x) same allowed) refl (omega (arith, eight, long, count))
 
       first_block : Allowed (block (place_in p true) unknown (record { force = force; so_far = 0; due = true })) (as_block first)
       unfolding block_sent

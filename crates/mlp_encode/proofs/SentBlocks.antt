@@ -177,7 +177,8 @@ module _ (j : ℕ) (p : Profile) (restarts : Bool) (s : State) (pasts : List Pas
       each_fits (channel_at s c) (past_of_channel pasts c) (get_or steps c 0) (not restarts) (column c frames) (k.states c le) (k.steps_small c le) (k.samples c) (k.whole c le) (λ e. (k.absent e c le).0) (λ e. (k.absent e c le).1)
       i (omega (arith, lt, length-map frames (λ (f : CodedFrame). get_or f.values c (pos 0))))
 
-  codes_there : (i : ℕ) → i < length frames → (codes_layout (channel_codes (drop s.restart.min after.channels.items) (drop s.restart.min after.steps.items))).Fits (map (λ (y : Sent). get_or y.codes i nothing) (sent_in j p restarts before frames))
+  codes_there : (i : ℕ) → i < length frames → (codes_layout (channel_codes (drop s.restart.min after.channels.items) (drop s.restart.min after.steps.items))).Fits
+      (map (λ (y : Sent). get_or y.codes i nothing) (sent_in j p restarts before frames))
   codes_there i lt =
       let ks : List ChannelCode = map coding (range_with_len first n) in
       let count : length ks ≡ n = length-map-range_with_len coding first n in

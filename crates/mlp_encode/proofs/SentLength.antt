@@ -28,9 +28,11 @@ use Rattle.mlp_encode.specs.Lawful.{SendsSegment, IsSentSegment, IsEnd, place_in
 
 -- it is whole words
 pub whole_words : (place : Place) (force : Option State) (s : Segment) (checked : Bool) → (segment place unknown force checked).Fits s → length ((segment place unknown force checked).spelling s) % 16 ≡ 0
-whole_words place force s checked fits = by checked (tail_words place unknown (first_context place force) checked s (has_tail place unknown force s checked fits)) (ap (λ (t : List Bool). length t) (segment_spelling place unknown force s checked))
+whole_words place force s checked fits = by checked (tail_words place unknown (first_context place force) checked s (has_tail place unknown force s checked fits))
+    (ap (λ (t : List Bool). length t) (segment_spelling place unknown force s checked))
   where
-    by : (c : Bool) → length ((segment_tail place unknown (first_context place force) checked).spelling 0 s) % 16 ≡ 0 → length ((segment place unknown force checked).spelling s) ≡ length (with_checks place unknown force s c ((segment_tail place unknown (first_context place force) checked).spelling 0 s))
+    by : (c : Bool) → length ((segment_tail place unknown (first_context place force) checked).spelling 0 s) % 16 ≡ 0
+        → length ((segment place unknown force checked).spelling s) ≡ length (with_checks place unknown force s c ((segment_tail place unknown (first_context place force) checked).spelling 0 s))
         → length ((segment place unknown force checked).spelling s) % 16 ≡ 0
     by false words e = omega (arith, words, e)
     by true words e =
@@ -62,14 +64,16 @@ module _ (j : ℕ) (p : Profile) (pasts : List Past) (frames : List CodedFrame) 
       omega (arith, same, most)
 
 -- no segment that is sent has more bytes
-pub sent_short : (j : ℕ) (p : Profile) (pasts : List Past) (frames : List CodedFrame) (t : Option ℕ) → IsEnd p t → (made : Segment) (after : Option State) (ps : List Past) (o : Option Restart) (state : Option State) → SendsSegment p j o state frames
+pub sent_short : (j : ℕ) (p : Profile) (pasts : List Past) (frames : List CodedFrame) (t : Option ℕ) → IsEnd p t
+    → (made : Segment) (after : Option State) (ps : List Past) (o : Option Restart) (state : Option State) → SendsSegment p j o state frames
     → IsSomeAnd (segment_sent j p o state pasts frames t) (λ s. IsSentSegment s made after ps) → length ((segment (place_in p (is_some o)) unknown state made.checked).spelling made) ≤ 8 * segment_most p j
 sent_short j p pasts frames t end made after ps o state h m =
     let there = sent_there j p pasts frames t end made after ps o state h m in
     bytes_there j p h.which frames t h.frames.count (unit_least p.rate) end _ (in_bytes _ (whole_words (place_in p (is_some o)) state made made.checked there.allowed.fits)) (bits_there j p pasts frames t end made after ps o state h m)
 
 -- .. at a place that is this one, against what is in force there
-pub short_there : (j : ℕ) (p : Profile) (pasts : List Past) (frames : List CodedFrame) (t : Option ℕ) → IsEnd p t → (made : Segment) (after : Option State) (ps : List Past) (o : Option Restart) (state : Option State) → SendsSegment p j o state frames
+pub short_there : (j : ℕ) (p : Profile) (pasts : List Past) (frames : List CodedFrame) (t : Option ℕ) → IsEnd p t
+    → (made : Segment) (after : Option State) (ps : List Past) (o : Option Restart) (state : Option State) → SendsSegment p j o state frames
     → IsSomeAnd (segment_sent j p o state pasts frames t) (λ s. IsSentSegment s made after ps) → (place : Place) (force : Option State) → place ≡ place_in p (is_some o) → force ≡ state
     → length ((segment place unknown force made.checked).spelling made) ≤ 8 * segment_most p j
 short_there j p pasts frames t end made after ps o state h m place force ep ef =

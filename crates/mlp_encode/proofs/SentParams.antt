@@ -119,7 +119,8 @@ module _ (j : ℕ) (p : Profile) (restarts : Bool) (s : State) (pasts : List Pas
       let all = each_over (λ c. group true (channel 0xFF c)) s.channels.items restarted_channel (λ (c : ℕ). (channel_in j before steps (not restarts) frames c).given) first n count
       (λ c lt. channel_allowed c (omega (arith, h.begun.fits.lawful.channel_count, h.begun.max, lt))) in
       subst (λ (m : ℕ). Allowed (each (λ c. group true (channel 0xFF c)) (drop m s.channels.items)) (map (λ x. x.given) (sent_in j p restarts before frames))) (sym h.begun.min)
-      (subst (λ (gs : List (Option ChannelParams)). Allowed (each (λ c. group true (channel 0xFF c)) (drop first s.channels.items)) gs) (sym (map-map (λ (x : Sent). x.given) (channel_in j before steps (not restarts) frames) (range_with_len first n))) all)
+      (subst (λ (gs : List (Option ChannelParams)). Allowed (each (λ c. group true (channel 0xFF c)) (drop first s.channels.items)) gs)
+      (sym (map-map (λ (x : Sent). x.given) (channel_in j before steps (not restarts) frames) (range_with_len first n))) all)
 
   pub params_allowed : Allowed (params s) (params_of j p restarts s (length frames) (sent_in j p restarts before frames))
   params_allowed =

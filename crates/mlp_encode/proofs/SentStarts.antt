@@ -79,7 +79,8 @@ restart_is_sync p n checks j = by (has_sync n)
     by true = refl
     by false = refl
 
-module _ (p : Profile) (n : ℕ) (checks : List ℕ) (frames : List CodedFrame) (old : List (Option State)) (h : Passes p) (coded : AreCodedBy p frames) (force : AreInForce p n (take (substreams_of p.channels) old)) (three : length old ≡ 3) where
+module _ (p : Profile) (n : ℕ) (checks : List ℕ) (frames : List CodedFrame) (old : List (Option State)) (h : Passes p) (coded : AreCodedBy p frames)
+    (force : AreInForce p n (take (substreams_of p.channels) old)) (three : length old ≡ 3) where
   pub sends_there : (j : ℕ) → j < substreams_of p.channels → SendsSegment p j (restart_in p n checks j) (get_or old j None) frames
   sends_there j lt =
       let few : substreams_of p.channels ≤ 3 = substreams_most p.channels in

@@ -20,7 +20,8 @@ use Rattle.mlp_encode.specs.Sync.{restart_of}
 use Rattle.mlp_encode.specs.Blocks.{SentSegment, segment_sent}
 use Rattle.mlp_encode.specs.Left.{Going}
 use Rattle.mlp_encode.specs.Lawful.{AreInForce}
-use Rattle.mlp_encode.specs.Unit.{SentUnit, nothing_sent, before, segments_from, output_timing, check_in, restart_in, check_with, entries_from, joined, AreWhole, IsSentUnit, Body, body_by, segments_in, segments_bytes, bytes_in, coded, filled, terminator_of, major_of, place_of, unit_sent}
+use Rattle.mlp_encode.specs.Unit.{SentUnit, nothing_sent, before, segments_from, output_timing, check_in, restart_in, check_with, entries_from, joined, AreWhole, IsSentUnit, Body}
+use Rattle.mlp_encode.specs.Unit.{body_by, segments_in, segments_bytes, bytes_in, coded, filled, terminator_of, major_of, place_of, unit_sent}
 use Rattle.mlp_encode.specs.Encoding.{IsBody, IsMade, IsEncoding, going_of}
 use Rattle.mlp_encode.specs.declared.progress.Progress.{Progress}
 use Rattle.mlp_encode.proofs.SyncAllowed.{Passes, passes, substreams_few}

@@ -109,7 +109,8 @@ module _ (j : ℕ) where
 
   abbrev pub channel_in : Force → List ℕ → Bool → List CodedFrame → ℕ → Sent
   channel_in before steps filters frames c =
-      channel_sent (channel_at before.state c) (past_of_channel before.pasts c) (slice_index_or steps c 0) filters (column c frames)
+      channel_sent (channel_at before.state c) (past_of_channel before.pasts c)
+      (slice_index_or steps c 0) filters (column c frames)
 
   abbrev pub channels_in : Force → List ℕ → Bool → List CodedFrame → List Sent
   channels_in before steps filters frames = map (channel_in before steps filters frames) (coded_channels j)
@@ -160,7 +161,8 @@ module _ (j : ℕ) where
 
   unfoldable pub block_sent : Profile → Option Restart → Force → List CodedFrame → SentBlock
   block_sent p restart before frames =
-      block_by restart before (sent_in p (is_some restart) before frames) (given_in p (is_some restart) before frames) frames
+      block_by restart before (sent_in p (is_some restart) before frames)
+      (given_in p (is_some restart) before frames) frames
 
   -- what is in force behind a restart: its channels have a past of zeros
   abbrev pub restarted : Profile → Restart → List Past → Force
@@ -179,7 +181,8 @@ module _ (j : ℕ) where
   later_sent p before frames terminator = single (block_sent p None before frames) terminator
 
   -- of a unit with a major sync, or behind what is in force; without a restart there is nothing to send against
-  abbrev pub segment_sent : Profile → Option Restart → Option State → List Past → List CodedFrame → Option ℕ → Option SentSegment
+  abbrev pub segment_sent : Profile → Option Restart → Option State → List Past → List CodedFrame
+      → Option ℕ → Option SentSegment
   segment_sent p (Some restart) force pasts frames terminator = Some (restart_sent p restart pasts frames terminator)
   segment_sent p None None pasts frames terminator = None
   segment_sent p None (Some s) pasts frames terminator =

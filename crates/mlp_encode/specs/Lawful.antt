@@ -34,7 +34,8 @@ pub record IsCodable (j : ℕ) (s : State) (steps : List ℕ) (filters : Bool) (
   pub few : length frames ≤ 160
   pub states : (c : ℕ) → c ≤ last_channel j → IsChannelState (channel_at s c)
   pub count : last_channel j < length s.channels.items
-  pub absent : filters ≡ false → (c : ℕ) → c ≤ last_channel j → (order_of (channel_at s c).fir ≡ 0) × (order_of (channel_at s c).iir ≡ 0)
+  pub absent : filters ≡ false → (c : ℕ) → c ≤ last_channel j
+      → (order_of (channel_at s c).fir ≡ 0) × (order_of (channel_at s c).iir ≡ 0)
   pub steps_count : last_channel j < length steps
   pub steps_small : (c : ℕ) → c ≤ last_channel j → slice_index_or steps c 0 ≤ 8
   pub samples : (c : ℕ) → All Is26 (column c frames)
@@ -85,7 +86,8 @@ pub record IsRestartOf (p : Profile) (j : ℕ) (r : Restart) : Type 0 where
   pub kind : r.kind ≡ noise_kind j
 
 -- a segment of these frames can be sent of substream j, with a restart or against what is in force
-pub record SendsSegment (p : Profile) (j : ℕ) (o : Option Restart) (state : Option State) (coded : List CodedFrame) : Type 0 where
+pub record SendsSegment (p : Profile) (j : ℕ) (o : Option Restart) (state : Option State)
+    (coded : List CodedFrame) : Type 0 where
   pub which : j ≤ 2
   pub shape : AreMixed p.mix p.depth p.channels
   pub top : channels_of j ≤ p.channels

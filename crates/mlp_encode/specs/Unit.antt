@@ -81,10 +81,16 @@ abbrev pub nothing_sent : List Past → SentUnit
 nothing_sent pasts = record { segments = []; force = []; pasts = pasts }
 
 abbrev pub before : SentSegment → SentUnit → SentUnit
-before s rest = record { segments = s.segment ∷ rest.segments; force = Some s.behind.state ∷ rest.force; pasts = rest.pasts }
+before s rest = record {
+  segments = s.segment ∷ rest.segments;
+  force =
+      Some s.behind.state ∷ rest.force;
+  pasts = rest.pasts;
+}
 
 -- .. from substream j on, by the restart of each
-abbrev pub segments_from : Profile → (ℕ → Option Restart) → List CodedFrame → Option ℕ → ℕ → List (Option State) → List Past → SentUnit
+abbrev pub segments_from : Profile → (ℕ → Option Restart) → List CodedFrame → Option ℕ → ℕ
+    → List (Option State) → List Past → SentUnit
 segments_from p restarts frames terminator j [] pasts = nothing_sent pasts
 segments_from p restarts frames terminator j (force ∷ more) pasts =
     elim (segment_sent j p (restarts j) force pasts frames terminator) [
@@ -129,9 +135,11 @@ abbrev pub segments_in : Profile → ℕ → List ℕ → List CodedFrame → Op
 segments_in p n checks frames t force pasts =
     segments_from p (restart_in p n checks) frames t 0 (take (substreams_of p.channels) force) pasts
 
-abbrev pub bytes_in : Profile → ℕ → List ℕ → List CodedFrame → Option ℕ → List (Option State) → List Past → List (List ℕ)
+abbrev pub bytes_in : Profile → ℕ → List ℕ → List CodedFrame → Option ℕ → List (Option State)
+    → List Past → List (List ℕ)
 bytes_in p n checks frames t force pasts =
-    segments_bytes (place_in p (has_sync n)) (take (substreams_of p.channels) force) (segments_in p n checks frames t force pasts).segments
+    segments_bytes (place_in p (has_sync n)) (take (substreams_of p.channels) force)
+    (segments_in p n checks frames t force pasts).segments
 
 -- of each segment of a unit the bytes: whole words, and together no more than segments may have
 pub record AreWhole (p : Profile) (segments : List (List ℕ)) : Type 0 where
@@ -141,7 +149,9 @@ pub record AreWhole (p : Profile) (segments : List (List ℕ)) : Type 0 where
 
 -- what was sent of a unit in the substreams, where this was in force and these are the pasts before it: what is in force
 -- behind it, the pasts, the entries and the bytes
-pub record IsSentUnit (p : Profile) (n : ℕ) (checks : List ℕ) (frames : List CodedFrame) (t : Option ℕ) (old : List (Option State)) (old_pasts : List Past) (force : List (Option State)) (pasts : List Past) (entries : List DirEntry) (bytes : List ℕ) : Type 0 where
+pub record IsSentUnit (p : Profile) (n : ℕ) (checks : List ℕ) (frames : List CodedFrame)
+    (t : Option ℕ) (old : List (Option State)) (old_pasts : List Past) (force : List (Option State))
+    (pasts : List Past) (entries : List DirEntry) (bytes : List ℕ) : Type 0 where
   pub force_is : take (substreams_of p.channels) force ≡ (segments_in p n checks frames t old old_pasts).force
   pub pasts_are : pasts ≡ (segments_in p n checks frames t old old_pasts).pasts
   pub entries_are : entries ≡ entries_from (has_sync n) 0 (bytes_in p n checks frames t old old_pasts)
@@ -196,7 +206,8 @@ behind g frames s fifo = record {
   fifo = fifo;
 }
 
-abbrev pub sent_at : Going → List (List ℤ) → SentUnit → Body → Result (ℕ × LeftFifo) NoRoom → Result (List ℕ × Left) NoRoom
+abbrev pub sent_at : Going → List (List ℤ) → SentUnit → Body → Result (ℕ × LeftFifo) NoRoom
+    → Result (List ℕ × Left) NoRoom
 sent_at g frames s body (Ok x) = Ok (unit_bytes x.0 body, Ok (behind g frames s x.1))
 sent_at g frames s body (Err e) = Err e
 

@@ -1,5 +1,6 @@
 -- PCM that is encoded to its end was sent, unit by unit.
-use Rattle.std.proofs.Common.{◌≡◌, ℕ, zero, suc, ◌+◌, ◌*◌, ◌/◌, ◌%◌, ◌<◌, ◌≤◌, ◌++◌, Bool, true, false, List, [], ◌∷◌, length, map, drop, Option, Some, Result, Ok, Err, ℤ, refl, sym, ap, subst, ◌∙◌, arith, append_assoc, length-append, length-drop}
+use Rattle.std.proofs.Common.{◌≡◌, ℕ, zero, suc, ◌+◌, ◌*◌, ◌/◌, ◌%◌, ◌<◌, ◌≤◌, ◌++◌, Bool, true, false, List, [], ◌∷◌, length, map, drop, Option, Some, Result, Ok, Err, ℤ, refl}
+use Rattle.std.proofs.Common.{sym, ap, subst, ◌∙◌, arith, append_assoc, length-append, length-drop}
 use Rattle.std.specs.Prelude.{All, ◌==◌}
 use Rattle.std.proofs.lemmas.Nat.{div-add-mod', div-mul-add, mod_below}
 use Rattle.std.proofs.lemmas.Bool.{ne_eqb}
@@ -150,7 +151,6 @@ data_bytes : (size : ℕ) (rest : List ℕ) → AreBytes rest → AreBytes (data
 data_bytes size rest h = All-take (λ (b : ℕ). b < 256) size rest h
 
 module _ (kind : Kind) (mix : Mix) (bytes : List ℕ) (format : Format) (size : ℕ) (rest : List ℕ) (says : Says bytes (begins format size rest)) (are : AreBytes rest) where
-
   by_answer : (output : List ℕ) (f : Format) (n : ℕ) (more : List ℕ) → begins f n more ≡ begins format size rest → checked (profile_in kind mix f) ≡ Ok tt → Encoded (profile_in kind mix f) (Some n) true more (Ok tt) output
       → IsStreamOf (profile_in kind mix format) (data_in (Some size) rest) output
   by_answer output f n more same ok x =

@@ -1,5 +1,6 @@
 -- What the session does with the next bytes, by its parts.
-use Rattle.std.proofs.Common.{◌≡◌, ◌↔◌, ℕ, zero, suc, ◌+◌, ◌<◌, ◌≤◌, min, Bool, true, false, eqb, ltb, leb, get_or, length-take, IsTrue, List, [], ◌∷◌, length, take, Option, None, Some, Result, Ok, Err, IfSome, ℤ, inl, inr, refl, sym, ap, subst, ◌∙◌, arith}
+use Rattle.std.proofs.Common.{◌≡◌, ◌↔◌, ℕ, zero, suc, ◌+◌, ◌<◌, ◌≤◌, min, Bool, true, false, eqb, ltb, leb, get_or, length-take, IsTrue, List, [], ◌∷◌, length, take, Option, None}
+use Rattle.std.proofs.Common.{Some, Result, Ok, Err, IfSome, ℤ, inl, inr, refl, sym, ap, subst, ◌∙◌, arith}
 use Rattle.std.specs.Option.{option_eq}
 use Rattle.std.specs.Prelude.{All, is_some, ◌⊎◌, if◌then◌else◌}
 use Rattle.std.proofs.lemmas.Bool.{cases_lt, lt-ltb, lt-leb, le-leb, ltb-true, leb-false, eqb-true, both_ways}

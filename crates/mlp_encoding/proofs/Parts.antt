@@ -1,5 +1,6 @@
 -- The frames of a unit's bytes can be sent.
-use Rattle.std.proofs.Common.{◌≡◌, ℕ, zero, suc, ◌+◌, ◌-◌, ◌*◌, ◌/◌, ◌%◌, ◌<◌, ◌≤◌, Bool, true, false, not, IsTrue, List, ◌∷◌, ◌++◌, length, take, drop, get_or, replicate, Option, None, Some, Result, Ok, Err, OnOk, IfErr, ℤ, pos, negsuc, inl, inr, refl, sym, ap, subst, ◌∙◌, arith}
+use Rattle.std.proofs.Common.{◌≡◌, ℕ, zero, suc, ◌+◌, ◌-◌, ◌*◌, ◌/◌, ◌%◌, ◌<◌, ◌≤◌, Bool, true, false, not, IsTrue, List, ◌∷◌, ◌++◌, length, take, drop, get_or, replicate, Option}
+use Rattle.std.proofs.Common.{None, Some, Result, Ok, Err, OnOk, IfErr, ℤ, pos, negsuc, inl, inr, refl, sym, ap, subst, ◌∙◌, arith}
 use Rattle.std.specs.Prelude.{All, ◌==◌, ◌&&◌, nat_lt, slice_index, if◌then◌else◌}
 use Rattle.std.specs.List.{list_all}
 use Rattle.std.proofs.Math.Nat.{mul-mod_left, div-eq_of_eq-mul_left}

@@ -16,7 +16,8 @@ units_in : Result (List ℕ × Held) Refusal → ℕ
 units_in (Ok x) = x.1.units
 units_in (Err r) = 0
 
-counted : (s t : Held) (u : Taken AccessUnit (List Segment)) (out : List ℕ) → given s u ≡ Ok (out, t) → t.units ≡ s.units + 1
+counted : (s t : Held) (u : Taken AccessUnit (List Segment)) (out : List ℕ)
+    → given s u ≡ Ok (out, t) → t.units ≡ s.units + 1
 unfolding units_in
 counted s t u out e = sym (ap units_in e)
 

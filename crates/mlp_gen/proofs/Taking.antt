@@ -85,10 +85,17 @@ took x bytes out samples new frames given total size g given_is samples_are tota
     ap (λ (h : Held). let y : Played = record { held = h; frames = given; sum = total; extracted = size } in y) g.gives.held_is
     ∙ ap (λ (n : ℕ). let y : Played = record { held = after_unit x.held g.gives.unit; frames = n; sum = total; extracted = size } in y) f
     ∙ ap (λ (n : ℕ). let y : Played = record { held = after_unit x.held g.gives.unit; frames = x.frames + length (frames_out x.held.k x.held.left g.gives.unit); sum = n; extracted = size } in y) s
-    ∙ ap (λ (n : ℕ). let y : Played = record { held = after_unit x.held g.gives.unit; frames = x.frames + length (frames_out x.held.k x.held.left g.gives.unit); sum = sum_with x.held.k x.sum (frames_out x.held.k x.held.left g.gives.unit); extracted = n } in y) e in
+    ∙ ap (λ (n : ℕ). let y : Played = record {
+      held = after_unit x.held g.gives.unit;
+      frames = x.frames + length (frames_out x.held.k x.held.left g.gives.unit);
+      sum =
+          sum_with x.held.k x.sum (frames_out x.held.k x.held.left g.gives.unit);
+      extracted = n;
+    } in y) e in
     subst (λ (r : Next). IfOk r (λ t. made ≡ after_played x t.unit)) (sym g.gives.next_is) same
 
-pub still_playing : (k : ℕ) (held new other : Held) (bytes : List ℕ) (frames : List (List ℤ)) (given size : ℕ) (g : Gave held bytes frames new) → held.k ≡ k → k ≤ 2 → other ≡ new → given ≤ 160 * (held.units + 1) → size ≤ 8190 * (held.units + 1)
+pub still_playing : (k : ℕ) (held new other : Held) (bytes : List ℕ) (frames : List (List ℤ)) (given size : ℕ) (g : Gave held bytes frames new) → held.k ≡ k → k ≤ 2 → other ≡ new
+    → given ≤ 160 * (held.units + 1) → size ≤ 8190 * (held.units + 1)
     → IsPlaying k new other given size
 still_playing k held new other bytes frames given size g k_is most same few small =
     let units : new.units ≡ held.units + 1 = ap (λ (h : Held). h.units) g.gives.held_is in

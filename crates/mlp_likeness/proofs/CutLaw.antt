@@ -40,7 +40,8 @@ frames_joined k l (u ∷ us) = ap (λ (fs : List (List ℤ)). frames_out k l u +
 
 steps_append : (k : ℕ) (l : Left) (us vs : List Unit_of) → frames_by_steps k l (us ++ vs) ≡ frames_by_steps k l us ++ frames_by_steps k (left_after (whole k) l us) vs
 steps_append k l [] vs = refl
-steps_append k l (u ∷ us) vs = ap (λ (fs : List (List ℤ)). frames_out k l u ++ fs) (steps_append k (after k l u) us vs) ∙ sym (append_assoc (frames_out k l u) (frames_by_steps k (after k l u) us) (frames_by_steps k (left_after (whole k) (after k l u) us) vs))
+steps_append k l (u ∷ us) vs = ap (λ (fs : List (List ℤ)). frames_out k l u ++ fs) (steps_append k (after k l u) us vs)
+    ∙ sym (append_assoc (frames_out k l u) (frames_by_steps k (after k l u) us) (frames_by_steps k (left_after (whole k) (after k l u) us) vs))
 
 -- of units that are the same alone as behind others
 samples_behind_others : (k : ℕ) (all middle rest : List Bool) (front us : List Unit_of) → Begins (whole k) (start k) all front middle → Begins (whole k) (left_after (whole k) (start k) front) middle us rest

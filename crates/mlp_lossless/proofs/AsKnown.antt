@@ -121,7 +121,8 @@ as_known place last i check force before s r le n begun restarted matrix lossles
     let others : All (λ (h : BlockHead). IfSome h.restart (λ q. RestartHolds (known last force check before) q)) begun.more =
     λ m d lt. subst (λ (o : Option Restart). IfSome o (λ q. RestartHolds (known last force check before) q)) (sym (begun.others m d lt)) tt in
     record {
-      restarts = subst (λ (hs : List BlockHead). All (λ (h : BlockHead). IfSome h.restart (λ q. RestartHolds (known last force check before) q)) hs) (sym begun.heads) (All-cons (λ (h : BlockHead). IfSome h.restart (λ q. RestartHolds (known last force check before) q)) begun.first begun.more first others);
+      restarts = subst (λ (hs : List BlockHead). All (λ (h : BlockHead). IfSome h.restart (λ q. RestartHolds (known last force check before) q)) hs) (sym begun.heads)
+          (All-cons (λ (h : BlockHead). IfSome h.restart (λ q. RestartHolds (known last force check before) q)) begun.first begun.more first others);
       end = end_same before s ends;
       frames = frames_same before place.unit_frames s ends frames;
     }

@@ -81,7 +81,6 @@ column_codes rows channels frames k i x lt is n =
 
 module _ (j : ℕ) (p : Profile) (restarts : Bool) (before : Force) (frames : List CodedFrame) (h : IsSendable j p restarts before.state frames)
     (count : length (steps_of p.mix (low_zeros p.depth) j) ≡ last_channel j + 1) (eight : length before.pasts ≡ 8) where
-
   abbrev channels : List Sent
   channels = sent_in j p restarts before frames
 
@@ -111,7 +110,8 @@ module _ (j : ℕ) (p : Profile) (restarts : Bool) (before : Force) (frames : Li
         }
 
     x_there : get_or (sent_in j p restarts before frames) i no_sent ≡ x
-    x_there = get_or-map-range_with_len (channel_in j before (steps_of p.mix (low_zeros p.depth) j) (not restarts) frames) (first_channel j) (last_channel j - first_channel j + 1) (c - first_channel j) c no_sent (omega (arith, from, to)) (omega (arith, from))
+    x_there = get_or-map-range_with_len (channel_in j before (steps_of p.mix (low_zeros p.depth) j) (not restarts) frames) (first_channel j) (last_channel j - first_channel j + 1)
+        (c - first_channel j) c no_sent (omega (arith, from, to)) (omega (arith, from))
 
     i_below : i < length (sent_in j p restarts before frames)
     i_below =
@@ -161,8 +161,10 @@ module _ (j : ℕ) (p : Profile) (restarts : Bool) (before : Force) (frames : Li
     -- the frames of the channel, by what was sent
     frames_are : (head : BlockHead) (rows : List MatrixRow) → head.params ≡ given_in j p restarts before frames
         → block_frames (Some behind) head c (codes_in rows (sent_in j p restarts before frames) frames)
-        ≡ with_state_first (state_of_channel x.given) (block_of (filters_of (channel_applied (channel_at before.state c) x.given).fir (channel_applied (channel_at before.state c) x.given).iir) (get_or (steps_of p.mix (low_zeros p.depth) j) c 0)
-        (map (residual_of (channel_applied (channel_at before.state c) x.given).book ((channel_applied (channel_at before.state c) x.given).low - get_or (steps_of p.mix (low_zeros p.depth) j) c 0) (channel_applied (channel_at before.state c) x.given).offset (get_or (steps_of p.mix (low_zeros p.depth) j) c 0)) x.codes))
+        ≡ with_state_first (state_of_channel x.given) (block_of (filters_of (channel_applied (channel_at before.state c) x.given).fir (channel_applied (channel_at before.state c) x.given).iir)
+        (get_or (steps_of p.mix (low_zeros p.depth) j) c 0)
+        (map (residual_of (channel_applied (channel_at before.state c) x.given).book ((channel_applied (channel_at before.state c) x.given).low - get_or (steps_of p.mix (low_zeros p.depth) j) c 0)
+        (channel_applied (channel_at before.state c) x.given).offset (get_or (steps_of p.mix (low_zeros p.depth) j) c 0)) x.codes))
     frames_are head rows e =
         let step : ℕ = get_or (steps_of p.mix (low_zeros p.depth) j) c 0 in
         let codes : List FrameCode = codes_in rows (sent_in j p restarts before frames) frames in

@@ -85,7 +85,8 @@ module _ (p : Profile) (n : ℕ) (checks : List ℕ) (coded : List CodedFrame) (
         each = λ k lt. each_of f fs s.segment later.segments (bytes_of text) (segments_bytes here fs later.segments) k lt (bits_back (2 * words here unknown f s.segment can.1.allowed.fits) text long) rest.each;
       })
     where
-      each_of : (f : Option State) (fs : List (Option State)) (s : Segment) (ss : List Segment) (b : List ℕ) (bs : List (List ℕ)) (k : ℕ) → k < length (f ∷ fs) → bits_of b ≡ (segment (place p n checks coded terminator) unknown f true).spelling s
+      each_of : (f : Option State) (fs : List (Option State)) (s : Segment) (ss : List Segment) (b : List ℕ) (bs : List (List ℕ)) (k : ℕ) → k < length (f ∷ fs)
+          → bits_of b ≡ (segment (place p n checks coded terminator) unknown f true).spelling s
           → ((k : ℕ) → k < length fs → bits_of (get_or bs k []) ≡ (segment (place p n checks coded terminator) unknown (get_or fs k None) true).spelling (get_or ss k no_segment))
           → bits_of (get_or (b ∷ bs) k []) ≡ (segment (place p n checks coded terminator) unknown (get_or (f ∷ fs) k None) true).spelling (get_or (s ∷ ss) k no_segment)
       each_of f fs s ss b bs zero lt first more = first

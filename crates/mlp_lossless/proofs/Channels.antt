@@ -126,7 +126,8 @@ module _ (force : ChannelState) (past : Past) (step : ℕ) (filters : Bool) (sam
   takes : TakeBits behind.book (behind.low - step) behind.offset step rs costs.costs.codes
   takes =
       let n : ℕ = costs.costs.codes in
-      let there = subst (λ (o : Option ℕ). Counts c.book (c.low - step) c.offset step (residuals_for past step samples c.filter costs.pair) o) costs.costs.taken (bits_counted c.book (c.low - step) c.offset step (residuals_for past step samples c.filter costs.pair)) in
+      let there = subst (λ (o : Option ℕ). Counts c.book (c.low - step) c.offset step (residuals_for past step samples c.filter costs.pair) o) costs.costs.taken
+      (bits_counted c.book (c.low - step) c.offset step (residuals_for past step samples c.filter costs.pair)) in
       subst (λ (k : ℕ). TakeBits k (behind.low - step) behind.offset step rs n) (sym book_is)
       (subst (λ (k : ℕ). TakeBits c.book (k - step) behind.offset step rs n) (sym low_is)
       (subst (λ (z : ℤ). TakeBits c.book (c.low - step) z step rs n) (sym offset_is)

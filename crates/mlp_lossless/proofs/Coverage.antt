@@ -109,7 +109,8 @@ abbrev no_frame : CodedFrame
 no_frame = record { values = []; bypass = 0 }
 
 -- frames of columns are the fronts of the frames that these stand in
-pub frames_back : (channels : ℕ → List ℤ) (frames : List CodedFrame) (m : ℕ) → ((c : ℕ) → c < m + 1 → channels c ≡ column c frames) → ((f : ℕ) → f < length frames → m + 1 ≤ length (get_or frames f (record { values = []; bypass = 0 })).values)
+pub frames_back : (channels : ℕ → List ℤ) (frames : List CodedFrame) (m : ℕ) → ((c : ℕ) → c < m + 1 → channels c ≡ column c frames)
+    → ((f : ℕ) → f < length frames → m + 1 ≤ length (get_or frames f (record { values = []; bypass = 0 })).values)
     → frames_of channels m (length frames) ≡ map (λ f. take (m + 1) f.values) frames
 frames_back channels frames m same wide =
     same_on_range (λ i. map (λ c. get_or (channels c) i (pos 0)) (range_with_len 0 (m + 1))) (λ i. take (m + 1) (get_or frames i no_frame).values) 0 (length frames)

@@ -96,10 +96,14 @@ module _ (last : ℕ) (place : Place) (all : List Coded) (check : ℕ) (o : Acce
         (ends_as place.unit_frames terminator before s b.alike (h.count, h.end)) h.count in
         let known_so = (known_allowed place (known last force check before) force true s).1 (allowed, is) in
         let spelled = bits ∙ sym (known_text place (known last force check before) force true s) in
-        let found : FoundWhole (segment place (known last force check before) force true) (take (16 * (end_at o.entries i - end_before o.entries i)) (drop (8 * (body_place o + 2 * end_before o.entries i)) text)) s = record { fits = known_so.fits; meets = known_so.meets; text_is = spelled } in
+        let found : FoundWhole (segment place (known last force check before) force true)
+        (take (16 * (end_at o.entries i - end_before o.entries i)) (drop (8 * (body_place o + 2 * end_before o.entries i)) text)) s =
+        record { fits = known_so.fits; meets = known_so.meets; text_is = spelled } in
         let with_check : FoundWhole (segment place (known last force check before) force (is_checked o.entries i)) (take (16 * (end_at o.entries i - end_before o.entries i)) (drop (8 * (body_place o + 2 * end_before o.entries i)) text)) s =
-        subst (λ (t : Bool). FoundWhole (segment place (known last force check before) force t) (take (16 * (end_at o.entries i - end_before o.entries i)) (drop (8 * (body_place o + 2 * end_before o.entries i)) text)) s) (sym checked) found in
-        subst (λ (m : ℕ). FoundWhole (segment place (known last (coded_at all m).force check before) (coded_at all m).force (is_checked o.entries m)) (take (16 * (end_at o.entries m - end_before o.entries m)) (drop (8 * (body_place o + 2 * end_before o.entries m)) text)) s) (sym n) with_check
+        subst (λ (t : Bool). FoundWhole (segment place (known last force check before) force t)
+        (take (16 * (end_at o.entries i - end_before o.entries i)) (drop (8 * (body_place o + 2 * end_before o.entries i)) text)) s) (sym checked) found in
+        subst (λ (m : ℕ). FoundWhole (segment place (known last (coded_at all m).force check before) (coded_at all m).force (is_checked o.entries m))
+        (take (16 * (end_at o.entries m - end_before o.entries m)) (drop (8 * (body_place o + 2 * end_before o.entries m)) text)) s) (sym n) with_check
 
     before_more : (i : ℕ) (before : List Segment) (x : Coded) (s : Segment) → Before i before → Stands place restarts terminator last check i x s → Before (suc i) (before ++ s ∷ [])
     before_more i before x s b h = record {

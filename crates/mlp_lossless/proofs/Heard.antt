@@ -46,7 +46,8 @@ module _ (mix : Mix) (depth channels j : ℕ) (m : AreMixed mix depth channels) 
   all_heard seed [] h = refl
   all_heard seed (x ∷ pcm) h =
       let P : List ℤ → Type 0 = AreSamples (24 - depth) channels in
-      let later : List (List ℤ) = heard s (next_seed seed) (map (bypass_in (rows_of mix j channels)) (map (coded_frame mix (24 - depth) channels) pcm)) (map (λ f. take (channels_of j) f.values) (map (coded_frame mix (24 - depth) channels) pcm)) in
+      let later : List (List ℤ) = heard s (next_seed seed) (map (bypass_in (rows_of mix j channels)) (map (coded_frame mix (24 - depth) channels) pcm))
+      (map (λ f. take (channels_of j) f.values) (map (coded_frame mix (24 - depth) channels) pcm)) in
       ap (λ (f : List ℤ). f ∷ later) (frame_heard seed x (All-head P x pcm h))
       ∙ ap (λ (fs : List (List ℤ)). take (channels_of j) (presented_of mix (24 - depth) channels j x) ∷ fs) (all_heard (next_seed seed) pcm (All-tail P x pcm h))
 

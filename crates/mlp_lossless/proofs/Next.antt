@@ -86,7 +86,8 @@ kept_behind p [] e after units same h full eq =
     subst (λ (g : Going). IsKept g × (g.profile ≡ p) × (g.units ≡ e.units + 0)) w (h, same, omega arith)
 kept_behind p (x ∷ xs) e after units same h full eq = pick (λ g rest. kept_behind p xs g after rest) (next_sent (Ok e) x false) refl
   where
-    pick : ((g : Going) (rest : List (List ℕ)) → g.profile ≡ p → IsKept g → All (λ f. AreNext p f false) xs → sent false (Ok g) xs ≡ record { units = rest; end = Ok (Ok after) } → IsKept after × (after.profile ≡ p) × (after.units ≡ g.units + length xs))
+    pick : ((g : Going) (rest : List (List ℕ)) → g.profile ≡ p → IsKept g → All (λ f. AreNext p f false) xs → sent false (Ok g) xs ≡ record { units = rest; end = Ok (Ok after) }
+        → IsKept after × (after.profile ≡ p) × (after.units ≡ g.units + length xs))
         → (r : Result (List ℕ × Left) NoRoom) → next_sent (Ok e) x false ≡ r → IsKept after × (after.profile ≡ p) × (after.units ≡ e.units + length (x ∷ xs))
     pick on (Err d) is =
         let z : refused_here d ≡ record { units = units; end = Ok (Ok after) } = sym (ap (on_sent false xs) is) ∙ sym (sent_first false (Ok e) x xs) ∙ eq in

@@ -87,10 +87,12 @@ module _ (p : Profile) (n : ℕ) (checks : List ℕ) (cs : List CodedFrame) (t :
       allowed : IsAllowed (segment (record { format = p.kind; unit_frames = unit_of p.rate; major = true }) unknown f true) (restart_sent i p (restart_of i (output_timing p n) (check_in n (get_or checks i 0))) pasts cs t).segment
       left : IsLeft p i (restart_sent i p (restart_of i (output_timing p n) (check_in n (get_or checks i 0))) pasts cs t).behind.state
       stays : length (restart_sent i p (restart_of i (output_timing p n) (check_in n (get_or checks i 0))) pasts cs t).behind.pasts ≡ 8
-      short : length ((segment (record { format = p.kind; unit_frames = unit_of p.rate; major = true }) unknown f true).spelling (restart_sent i p (restart_of i (output_timing p n) (check_in n (get_or checks i 0))) pasts cs t).segment) ≤ 8 * segment_most p i
+      short : length ((segment (record { format = p.kind; unit_frames = unit_of p.rate; major = true }) unknown f true).spelling
+          (restart_sent i p (restart_of i (output_timing p n) (check_in n (get_or checks i 0))) pasts cs t).segment) ≤ 8 * segment_most p i
 
     short_fresh : (f : Option State) → IfSome f (IsInForce p i) → IsRestartOf p i (restart_of i (output_timing p n) (check_in n (get_or checks i 0)))
-        → length ((segment (record { format = p.kind; unit_frames = unit_of p.rate; major = true }) unknown f true).spelling (restart_sent i p (restart_of i (output_timing p n) (check_in n (get_or checks i 0))) pasts cs t).segment) ≤ 8 * segment_most p i
+        → length ((segment (record { format = p.kind; unit_frames = unit_of p.rate; major = true }) unknown f true).spelling
+        (restart_sent i p (restart_of i (output_timing p n) (check_in n (get_or checks i 0))) pasts cs t).segment) ≤ 8 * segment_most p i
     short_fresh f force r =
         let h : Restart = restart_of i (output_timing p n) (check_in n (get_or checks i 0)) in
         let sends : SendsSegment p i (Some h) f cs = record { which = few; shape = shape; top = top; frames = a; restarts = r; force = force; there = λ no. absurd (let z : true ≡ false = no in cc) } in
@@ -123,7 +125,8 @@ module _ (p : Profile) (n : ℕ) (checks : List ℕ) (cs : List CodedFrame) (t :
       stays : length (later_sent i p (record { state = st; pasts = pasts }) cs t).behind.pasts ≡ 8
       short : length ((segment (record { format = p.kind; unit_frames = unit_of p.rate; major = false }) unknown (Some st) true).spelling (later_sent i p (record { state = st; pasts = pasts }) cs t).segment) ≤ 8 * segment_most p i
 
-    short_later : (st : State) → IsLeft p i st → length ((segment (record { format = p.kind; unit_frames = unit_of p.rate; major = false }) unknown (Some st) true).spelling (later_sent i p (record { state = st; pasts = pasts }) cs t).segment) ≤ 8 * segment_most p i
+    short_later : (st : State) → IsLeft p i st → length ((segment (record { format = p.kind; unit_frames = unit_of p.rate; major = false }) unknown (Some st) true).spelling
+        (later_sent i p (record { state = st; pasts = pasts }) cs t).segment) ≤ 8 * segment_most p i
     short_later st h =
         let sends : SendsSegment p i None (Some st) cs = record { which = few; shape = shape; top = top; frames = a; restarts = tt; force = h.in_force; there = λ no. refl } in
         sent_most i p pasts cs t None (Some st) sends end
@@ -164,10 +167,12 @@ module _ (p : Profile) (n : ℕ) (checks : List ℕ) (cs : List CodedFrame) (t :
               can = record {
                 sent = ap (λ (o : Option Restart). segment_sent i p o f pasts cs t) o;
                 can = subst (λ (o : Option Restart). CanSegment p n checks cs t i pasts o f) (sym o) x.can;
-                allowed = subst (λ (b : Bool). IsAllowed (segment (record { format = p.kind; unit_frames = unit_of p.rate; major = b }) unknown f true) (restart_sent i p (restart_of i (output_timing p n) (check_in n (get_or checks i 0))) pasts cs t).segment) (sym e) x.allowed;
+                allowed = subst (λ (b : Bool). IsAllowed (segment (record { format = p.kind; unit_frames = unit_of p.rate; major = b }) unknown f true)
+                    (restart_sent i p (restart_of i (output_timing p n) (check_in n (get_or checks i 0))) pasts cs t).segment) (sym e) x.allowed;
                 plain = plain_of f left;
                 later = going;
-                short = subst (λ (b : Bool). length ((segment (record { format = p.kind; unit_frames = unit_of p.rate; major = b }) unknown f true).spelling (restart_sent i p (restart_of i (output_timing p n) (check_in n (get_or checks i 0))) pasts cs t).segment) ≤ 8 * segment_most p i) (sym e) x.short;
+                short = subst (λ (b : Bool). length ((segment (record { format = p.kind; unit_frames = unit_of p.rate; major = b }) unknown f true).spelling
+                    (restart_sent i p (restart_of i (output_timing p n) (check_in n (get_or checks i 0))) pasts cs t).segment) ≤ 8 * segment_most p i) (sym e) x.short;
               };
               left = x.left;
               eight = x.stays;
@@ -182,10 +187,12 @@ module _ (p : Profile) (n : ℕ) (checks : List ℕ) (cs : List CodedFrame) (t :
               can = record {
                 sent = ap (λ (o : Option Restart). segment_sent i p o (Some st) pasts cs t) o;
                 can = subst (λ (o : Option Restart). CanSegment p n checks cs t i pasts o (Some st)) (sym o) x.can;
-                allowed = subst (λ (b : Bool). IsAllowed (segment (record { format = p.kind; unit_frames = unit_of p.rate; major = b }) unknown (Some st) true) (later_sent i p (record { state = st; pasts = pasts }) cs t).segment) (sym e) x.allowed;
+                allowed = subst (λ (b : Bool). IsAllowed (segment (record { format = p.kind; unit_frames = unit_of p.rate; major = b }) unknown (Some st) true)
+                    (later_sent i p (record { state = st; pasts = pasts }) cs t).segment) (sym e) x.allowed;
                 plain = left.plain;
                 later = going;
-                short = subst (λ (b : Bool). length ((segment (record { format = p.kind; unit_frames = unit_of p.rate; major = b }) unknown (Some st) true).spelling (later_sent i p (record { state = st; pasts = pasts }) cs t).segment) ≤ 8 * segment_most p i) (sym e) x.short;
+                short = subst (λ (b : Bool). length ((segment (record { format = p.kind; unit_frames = unit_of p.rate; major = b }) unknown (Some st) true).spelling
+                    (later_sent i p (record { state = st; pasts = pasts }) cs t).segment) ≤ 8 * segment_most p i) (sym e) x.short;
               };
               left = x.left;
               eight = x.stays;
@@ -264,7 +271,8 @@ restarts_are p n checks ok k lt = pick (has_sync n)
     pick false = tt
     pick true =
         restart_lawful p k (output_timing p n) (check_in n (get_or checks k 0)) (presentation p k (passes p ok) lt).few
-        (λ e. let two = leb-true (substreams_of p.channels) 2 (two_at_most p.channels (ap (λ (kind : Kind). has_channels kind p.channels) (sym e) ∙ (passes p ok).channels)) in omega (arith, two, lt)) (omega arith) (check_small n (get_or checks k 0))
+        (λ e. let two = leb-true (substreams_of p.channels) 2 (two_at_most p.channels (ap (λ (kind : Kind). has_channels kind p.channels) (sym e) ∙ (passes p ok).channels)) in omega (arith, two, lt))
+        (omega arith) (check_small n (get_or checks k 0))
 
 -- ---- the next unit
 
@@ -273,11 +281,13 @@ frames_sent p frames last ok next =
     coded_by p (filled p frames) (mixed p (passes p ok)) (filled_samples p (passes p ok) frames last next) (filled_count p (passes p ok) frames last next)
 
 module _ (e : Going) (frames : List (List ℤ)) (last : Bool) (h : IsKept e) (next : AreNext e.profile frames last) where
-  all_sent : SendsAll e.profile e.units e.checks (coded e.profile (filled e.profile frames)) (terminator_of e.profile (length frames) last) (mixed e.profile (passes e.profile h.profile)) (frames_sent e.profile frames last h.profile next) (end_is e.profile (length frames) last) 0 e.force e.pasts
+  all_sent : SendsAll e.profile e.units e.checks (coded e.profile (filled e.profile frames)) (terminator_of e.profile (length frames) last) (mixed e.profile (passes e.profile h.profile))
+      (frames_sent e.profile frames last h.profile next) (end_is e.profile (length frames) last) 0 e.force e.pasts
   all_sent =
       let zero_is : (k : ℕ) → k ≡ 0 + k = λ k. omega arith in
       let shows = λ (k : ℕ) (lt : k < length e.force). presentation e.profile k (passes e.profile h.profile) (omega (arith, lt, h.count)) in
-      sends_all e.profile e.units e.checks (coded e.profile (filled e.profile frames)) (terminator_of e.profile (length frames) last) (mixed e.profile (passes e.profile h.profile)) (frames_sent e.profile frames last h.profile next) (end_is e.profile (length frames) last) 0 e.force e.pasts
+      sends_all e.profile e.units e.checks (coded e.profile (filled e.profile frames)) (terminator_of e.profile (length frames) last) (mixed e.profile (passes e.profile h.profile))
+      (frames_sent e.profile frames last h.profile next) (end_is e.profile (length frames) last) 0 e.force e.pasts
       (three (substreams_of e.profile.channels) h.count (λ k lt. (presentation e.profile k (passes e.profile h.profile) lt).few))
       (λ k lt. subst (λ (m : ℕ). channels_of m ≤ e.profile.channels) (zero_is k) (shows k lt).fits)
       h.eight

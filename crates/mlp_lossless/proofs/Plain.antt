@@ -45,7 +45,8 @@ restart_plain j kind unit timing check =
 pub restart_channels : (j timing check : ℕ) → IsRestartOf j (restart_of j timing check)
 restart_channels j timing check = record { min = refl; max = refl; max_matrix = refl }
 
-module _ (j : ℕ) (p : Profile) (restarts : Bool) (before : Force) (frames : List CodedFrame) (h : IsSendable j p restarts before.state frames) (count : length (steps_of p.mix (low_zeros p.depth) j) ≡ last_channel j + 1) (plain : IsPlain j before.state) where
+module _ (j : ℕ) (p : Profile) (restarts : Bool) (before : Force) (frames : List CodedFrame) (h : IsSendable j p restarts before.state frames)
+    (count : length (steps_of p.mix (low_zeros p.depth) j) ≡ last_channel j + 1) (plain : IsPlain j before.state) where
   -- parameters that are sent change nothing of it
   pub plain_behind : IsPlain j (given (given_in j p restarts before frames) before.state)
   plain_behind =

@@ -32,7 +32,6 @@ use Rattle.mlp_lossless.proofs.Plain.{IsPlain, restart_plain, restart_channels, 
 -- ---- a block
 
 module _ (j : ℕ) (p : Profile) (restart : Option Restart) (before : Force) (frames : List CodedFrame) (can : CanBlock j p restart before frames) where
-
   pub block_below : (c : ℕ) → c < first_channel j → past_of_channel (block_sent j p restart before frames).behind.pasts c ≡ past_of_channel before.pasts c
   unfolding block_sent
   block_below c lt = past_below j p (is_some restart) before frames can.sendable can.steps can.eight c lt
@@ -68,7 +67,8 @@ pub record IsSentWell (place : Place) (x : Coded) (j : ℕ) (p : Profile) (resta
   pub padding : s.segment.padding ≡ 0
   pub heads : map (λ h. (h.frames, h.restart)) s.segment.blocks.items ≡ block_heads restart (length frames)
 
-pub later_well : (j : ℕ) (p : Profile) (place : Place) (x : Coded) (st : State) (pasts : List Past) (frames : List CodedFrame) (terminator : Option ℕ) → CanBlock j p None (record { state = st; pasts = pasts }) frames → x.force ≡ Some st → place.major ≡ false
+pub later_well : (j : ℕ) (p : Profile) (place : Place) (x : Coded) (st : State) (pasts : List Past) (frames : List CodedFrame) (terminator : Option ℕ)
+    → CanBlock j p None (record { state = st; pasts = pasts }) frames → x.force ≡ Some st → place.major ≡ false
     → ((c : ℕ) → first_channel j ≤ c → c ≤ last_channel j → past_of_channel x.pasts c ≡ past_of_channel pasts c) → IsPlain j st
     → IsSentWell place x j p None pasts frames terminator (later_sent j p (record { state = st; pasts = pasts }) frames terminator)
 unfolding later_sent
@@ -125,8 +125,10 @@ module _ (j : ℕ) (p : Profile) (place : Place) (x : Coded) (timing check : ℕ
             ∙ ap (λ (bs : List ℕ). bypass (take first_frames frames) ++ bs) (block_bits j p None first.behind (drop first_frames frames) b)
             ∙ sym (map-append (bypass_in (rows_of p.mix j p.channels)) (take first_frames frames) (drop first_frames frames))
             ∙ ap bypass (take-append-drop first_frames frames);
-        below = λ c lt. block_below j p None first.behind (drop first_frames frames) b c lt ∙ block_below j p (Some restart) fresh (take first_frames frames) a c lt ∙ replaced_below pasts zs (first_channel j) (last_channel j + 1) c (omega (arith, can.eight, le, l)) lt;
-        above = λ c lt. block_above j p None first.behind (drop first_frames frames) b c lt ∙ block_above j p (Some restart) fresh (take first_frames frames) a c lt ∙ replaced_above pasts zs (first_channel j) (last_channel j + 1) c (omega (arith, can.eight, le, l)) (omega (arith, n, le)) (omega (arith, lt));
+        below = λ c lt. block_below j p None first.behind (drop first_frames frames) b c lt ∙ block_below j p (Some restart) fresh (take first_frames frames) a c lt
+            ∙ replaced_below pasts zs (first_channel j) (last_channel j + 1) c (omega (arith, can.eight, le, l)) lt;
+        above = λ c lt. block_above j p None first.behind (drop first_frames frames) b c lt ∙ block_above j p (Some restart) fresh (take first_frames frames) a c lt
+            ∙ replaced_above pasts zs (first_channel j) (last_channel j + 1) c (omega (arith, can.eight, le, l)) (omega (arith, n, le)) (omega (arith, lt));
         eight = block_eight j p None first.behind (drop first_frames frames) b;
         begun = record {
           first = first.head;

@@ -87,7 +87,8 @@ taken_zero : (t : Bool) → ◌≡◌ {A = ℕ} (if t then 0 else 0) 0
 taken_zero true = refl
 taken_zero false = refl
 
-bits_same : (mix : Mix) (q channels j : ℕ) (x ys : List ℤ) → applied (rows_of mix j channels) (steps_of mix q j) (bypass_in (rows_of mix j channels) (coded_frame mix q channels x)) ys ≡ applied (rows_of mix j channels) (steps_of mix q j) (bypass_of mix x) ys
+bits_same : (mix : Mix) (q channels j : ℕ) (x ys : List ℤ) → applied (rows_of mix j channels) (steps_of mix q j) (bypass_in (rows_of mix j channels) (coded_frame mix q channels x)) ys
+    ≡ applied (rows_of mix j channels) (steps_of mix q j) (bypass_of mix x) ys
 bits_same Split q channels j x ys = refl
 bits_same Fold q channels j x ys = ap (λ (b : ℕ). applied (fold_rows j channels) (steps_of Fold q j) b ys) (taken_zero (list_any (λ row. row.bypass) (fold_rows j channels)))
 bits_same Bypass q channels zero x ys = refl
@@ -177,7 +178,8 @@ module _ (mix : Mix) (depth channels j : ℕ) (x : List ℤ) (m : AreMixed mix d
 
   -- the samples of its matrix channels
   pub samples_shown : (shift seed : ℕ) → j ≤ 2
-      → samples_of (replicate (channels_of j) 0) (applied (rows_of mix j channels) (steps_of mix (24 - depth) j) (bypass_in (rows_of mix j channels) (coded_frame mix (24 - depth) channels x)) (take (channels_of j) (coded_of mix (24 - depth) channels x) ++ noise_by j shift seed))
+      → samples_of (replicate (channels_of j) 0) (applied (rows_of mix j channels) (steps_of mix (24 - depth) j) (bypass_in (rows_of mix j channels) (coded_frame mix (24 - depth) channels x))
+      (take (channels_of j) (coded_of mix (24 - depth) channels x) ++ noise_by j shift seed))
       ≡ take (channels_of j) (presented_of mix (24 - depth) channels j x)
   samples_shown shift seed le =
       let ys : List ℤ = take (channels_of j) (coded_of mix (24 - depth) channels x) ++ noise_by j shift seed in

@@ -65,7 +65,8 @@ module _ (j : ℕ) (p : Profile) (bytes : List ℕ) (few : j ≤ 2) (lt : j < su
 
 -- ---- what is sent of PCM gives it back
 
-pub gives_back : (p : Profile) (j : ℕ) (frames : List (List (List ℤ))) (units : List (List ℕ)) (left : Left) → IsSent p frames units left → j < substreams_of p.channels → AllCanSend (Ok (going p)) frames → GivesBack p j (all_frames frames) (joined units)
+pub gives_back : (p : Profile) (j : ℕ) (frames : List (List (List ℤ))) (units : List (List ℕ)) (left : Left) → IsSent p frames units left → j < substreams_of p.channels
+    → AllCanSend (Ok (going p)) frames → GivesBack p j (all_frames frames) (joined units)
 gives_back p j frames units left h lt can =
     let t = all_taken j p lt frames (going p) (start j) units left refl h.some can (follows_start p j lt) h.sent_is in
     let shows = presentation p j (passes p h.profile) lt in

@@ -95,7 +95,8 @@ module _ (p : Profile) (n : ℕ) (checks : List ℕ) (cs : List CodedFrame) (t :
             subst (λ (m : ℕ). first_channel m ≤ c → c ≤ last_channel m → past_of_channel (get_or xs k nothing_coded).pasts c ≡ past_of_channel pasts c) e (same (suc k) c (omega arith))),
       )
 
-  none_ended : (last check : ℕ) (final : List Past) (i : ℕ) (xs : List Coded) (ss : List Segment) (fs : List (Option State)) → t ≡ None → AllPlayed p n checks cs t last check final i xs ss fs → list_any (λ s. is_some s.terminator) ss ≡ false
+  none_ended : (last check : ℕ) (final : List Past) (i : ℕ) (xs : List Coded) (ss : List Segment) (fs : List (Option State)) → t ≡ None → AllPlayed p n checks cs t last check final i xs ss fs
+      → list_any (λ s. is_some s.terminator) ss ≡ false
   unfolding AllPlayed
   none_ended last check final i [] [] fs e h = refl
   none_ended last check final i [] (s ∷ ss) fs e h = absurd h
@@ -241,7 +242,8 @@ module _ (j : ℕ) (e : Going) (d : Decoded) (frames : List (List ℤ)) (last : 
   found_here : FoundIn (segments (portion j (place_of e) d.substreams (folded d.check) outer) (length contents) []) text contents
   found_here =
       let stand = all_stand e.profile e.units e.checks cs t j (folded d.check) sent.pasts 0 d.substreams contents sent.force all_played.played in
-      let bits = all_bits j (place_of e) d.substreams (folded d.check) outer (restart_in e.profile e.units e.checks) t d.sync allowed.fits (has_sync e.units) bs refl refl bytes_of_all.even 0 contents (omega (arith, contents_count, some, bytes_of_all.bytes_count, can.count))
+      let bits = all_bits j (place_of e) d.substreams (folded d.check) outer (restart_in e.profile e.units e.checks) t d.sync allowed.fits (has_sync e.units) bs refl refl bytes_of_all.even 0 contents
+      (omega (arith, contents_count, some, bytes_of_all.bytes_count, can.count))
       (λ k lt. each_bits k (omega (arith, lt, contents_count))) in
       found_all j (place_of e) d.substreams (folded d.check) outer (restart_in e.profile e.units e.checks) t text d.substreams contents (omega (arith, contents_count, shows.few)) refl restarts_alike stand bits
     where
@@ -295,7 +297,8 @@ module _ (j : ℕ) (e : Going) (d : Decoded) (frames : List (List ℤ)) (last : 
       let first : List ℤ → List ℤ = λ x. take (channels_of j) (presented_of e.profile.mix (24 - e.profile.depth) e.profile.channels j x) in
       ap (λ (x : Place). heard_in x (channel x d.substreams contents) d.seed top (force_after x (coded_at d.substreams j).force top.blocks.items)) place_is
       ∙ ap (λ (f : Option State). heard_in (place_of e) (channel (place_of e) d.substreams contents) d.seed top f) top_played.back.force
-      ∙ heard_unit e.profile.mix e.profile.depth e.profile.channels j (mixed e.profile is) shows.fits shows.few (filled e.profile frames) (filled_samples e.profile is frames last can.frames_are) (place_of e) d.substreams contents back h.count
+      ∙ heard_unit e.profile.mix e.profile.depth e.profile.channels j (mixed e.profile is) shows.fits shows.few (filled e.profile frames) (filled_samples e.profile is frames last can.frames_are)
+      (place_of e) d.substreams contents back h.count
       top st top_played.top top_played.plain.max_matrix top_played.bits codes d.seed
       ∙ ap (λ (o : Option ℕ). take (length (filled e.profile frames) - dropped e.profile.kind o) (map first (filled e.profile frames))) top_played.stand.end
       ∙ ap (λ (k : ℕ). take k (map first (filled e.profile frames))) (kept e.profile is frames last can.frames_are)

@@ -109,7 +109,8 @@ module _ (j : ℕ) (p : Profile) (some : j < substreams_of p.channels) where
       let bs : List Bool = bits_of (unit_bytes time (body_of e (unit_sent e frames last))) in
       ap (λ (text : List Bool). drop (length text) (bs ++ rest)) (spelled j e d frames last time can h some) ∙ drop-append_seam bs rest
 
-  pub all_taken : (pcm : List (List (List ℤ))) (e : Going) (d : Decoded) (units : List (List ℕ)) (left : Left) → e.profile ≡ p → 0 < length pcm → AllCanSend (Ok e) pcm → Follows j e d → sent true (Ok e) pcm ≡ record { units = units; end = Ok left }
+  pub all_taken : (pcm : List (List (List ℤ))) (e : Going) (d : Decoded) (units : List (List ℕ)) (left : Left) → e.profile ≡ p → 0 < length pcm → AllCanSend (Ok e) pcm → Follows j e d
+      → sent true (Ok e) pcm ≡ record { units = units; end = Ok left }
       → IsTaken j p e d pcm units
   unfolding AllCanSend Begins AreOutput AreChosen
   all_taken [] e d units left same lt can h eq = absurd (omega arith)

@@ -173,7 +173,8 @@ module _ (p : Profile) (n : ℕ) (checks : List ℕ) (coded : List CodedFrame) (
       ∙ ap (λ (k : ℕ). before s (segments_from p (restart_in p n checks) coded terminator k fs s.behind.pasts)) next
 
   module _ (last check : ℕ) (full : length coded ≡ unit_of p.rate) (sums : (n == 0) ≡ false → folded (get_or checks last 0) ≡ check) where
-    stands : (i : ℕ) (x : Coded) (f : Option State) (pasts : List Past) (s : SentSegment) → CanSend i f pasts s → x.force ≡ f → IsSentWell place x i p (restarts i) pasts coded terminator s → Stands place restarts terminator last check i x s.segment
+    stands : (i : ℕ) (x : Coded) (f : Option State) (pasts : List Past) (s : SentSegment) → CanSend i f pasts s → x.force ≡ f → IsSentWell place x i p (restarts i) pasts coded terminator s
+        → Stands place restarts terminator last check i x s.segment
     stands i x f pasts s h same w = record {
       allowed = subst (λ (g : Option State). IsAllowed (segment place unknown g true) s.segment) (sym same) h.allowed;
       begun = w.begun;
@@ -185,7 +186,8 @@ module _ (p : Profile) (n : ℕ) (checks : List ℕ) (coded : List CodedFrame) (
       lossless = λ e. subst (λ (g : Option State). IfSome (restarts i) (λ r. IfSome g (λ t. r.lossless ≡ check))) (sym same) (check_of (has_sync n) f h.later e);
     }
       where
-        matrix_of : (t : Bool) (f : Option State) → IfSome f (λ t. IsPlain i t) → IfSome (if t then Some (restart_of i (output_timing p n) (check_in n (get_or checks i 0))) else None) (λ r. IfSome f (λ t. r.max_matrix ≡ t.restart.max_matrix))
+        matrix_of : (t : Bool) (f : Option State) → IfSome f (λ t. IsPlain i t)
+            → IfSome (if t then Some (restart_of i (output_timing p n) (check_in n (get_or checks i 0))) else None) (λ r. IfSome f (λ t. r.max_matrix ≡ t.restart.max_matrix))
         matrix_of false f h = tt
         matrix_of true None h = tt
         matrix_of true (Some t) h = sym h.max_matrix
@@ -196,7 +198,8 @@ module _ (p : Profile) (n : ℕ) (checks : List ℕ) (coded : List CodedFrame) (
         check_of true (Some t) h e =
             ap (λ (b : Bool). if b then 0 else folded (get_or checks i 0)) h ∙ ap (λ (k : ℕ). folded (get_or checks k 0)) e ∙ sums h
 
-    pub plays : (i : ℕ) (xs : List Coded) (fs : List (Option State)) (pasts : List Past) → length xs ≤ length fs → AllCan i fs pasts → Alongside i xs fs pasts → Plays last check i xs pasts (segments_from p (restart_in p n checks) coded terminator i fs pasts)
+    pub plays : (i : ℕ) (xs : List Coded) (fs : List (Option State)) (pasts : List Past) → length xs ≤ length fs → AllCan i fs pasts → Alongside i xs fs pasts
+        → Plays last check i xs pasts (segments_from p (restart_in p n checks) coded terminator i fs pasts)
     unfolding AllCan Alongside AllPlayed
     plays i [] [] pasts le can along = record { played = tt; below = λ c lt. refl }
     plays i (x ∷ xs) [] pasts le can along = absurd (omega arith)

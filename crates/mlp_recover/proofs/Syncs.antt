@@ -92,7 +92,8 @@ module _ (k : ℕ) (bytes : List ℕ) (first : ℕ) where
   length_from = length-bits_of (drop first bytes)
 
   -- the first unit of what begins there
-  pub first_of_units : (us : List Unit_of) (rest : List Bool) → Begins (whole k) (start k) (bits_of (drop first bytes)) us rest → us ≢ [] → (u : Unit_of) × (more : List Unit_of) × (us ≡ u ∷ more) × Found (access_unit None) (bits_of (drop first bytes)) 0 u.outer
+  pub first_of_units : (us : List Unit_of) (rest : List Bool) → Begins (whole k) (start k) (bits_of (drop first bytes)) us rest → us ≢ []
+      → (u : Unit_of) × (more : List Unit_of) × (us ≡ u ∷ more) × Found (access_unit None) (bits_of (drop first bytes)) 0 u.outer
   unfolding Begins
   first_of_units [] rest b some = absurd (some refl)
   first_of_units (u ∷ more) rest b some = (u, more, refl, first_found k (bits_of (drop first bytes)) u b.0)

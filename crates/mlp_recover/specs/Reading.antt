@@ -52,7 +52,8 @@ pub record IsRead (k : ℕ) (bytes : List ℕ) (first : ℕ) (us : List Unit_of)
   pub channels : us ≢ [] → reach.channels ≡ channels_by k (left_behind k us)
 
 -- .. and they don't end there
-pub record IsGrowing (k : ℕ) (bytes : List ℕ) (first : ℕ) (us : List Unit_of) (held : Held) (reach : Reach) : Type 0 where
+pub record IsGrowing (k : ℕ) (bytes : List ℕ) (first : ℕ) (us : List Unit_of) (held : Held)
+    (reach : Reach) : Type 0 where
   pub read : IsRead k bytes first us held reach
   pub more : reach.past < length bytes
   pub going : us ≢ [] → (left_behind k us).ended ≡ false

@@ -9,7 +9,16 @@ use Rattle.mlp_recover.specs.Recovered.{Piece, Lost, Kept, AreRecovered}
 
 -- its numbers: of a kept piece the units, the frames of the presentation, its channels and its rate
 abbrev pub span_of : ℕ → Piece → Span
-span_of k (Lost first past) = record { first = first; past = past; kept = false; units = 0; frames = 0; channels = 0; rate = 0 }
+span_of k (Lost first past) = record {
+  first = first;
+  past = past;
+  kept = false;
+  units = 0;
+  frames =
+      0;
+  channels = 0;
+  rate = 0;
+}
 span_of k (Kept first past us) = record {
   first = first;
   past = past;

@@ -126,7 +126,8 @@ placed_at kind rate lengths times b = by_case (placed_all lengths (emptied kind 
     by_case : (x : Result (List ℕ × LeftFifo) NoRoom) → placed_all lengths (emptied kind rate) ≡ x → IsOk x → AllPlaced kind rate lengths times
     by_case (Ok r) e some =
         let m = subst (AllPlacedMean kind rate lengths) e (all_placed kind rate lengths) in
-        let same : r.0 ≡ times = same_list r.0 times (m.0.as_many ∙ sym b.as_many) (λ i lt. only (pace_of kind rate) (slice_index lengths) (slice_index r.0) (slice_index times) (length lengths) m.0.earliest b.earliest i (omega (arith, lt, m.0.as_many))) in
+        let same : r.0 ≡ times = same_list r.0 times (m.0.as_many ∙ sym b.as_many)
+        (λ i lt. only (pace_of kind rate) (slice_index lengths) (slice_index r.0) (slice_index times) (length lengths) m.0.earliest b.earliest i (omega (arith, lt, m.0.as_many))) in
         record { left = r.1; is = e ∙ ap (λ (ts : List ℕ). ok_times (ts, r.1)) same }
     by_case (Err b) e some = absurd cc
 

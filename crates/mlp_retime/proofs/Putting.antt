@@ -40,6 +40,7 @@ stamped_unit first input output n unit o place body there p m own text =
     let body_is : body ≡ restamped_body place n output unit o = sym own ∙ ap bytes_of text in
     let whole : restamped_body place n output unit o ≡ restamped_body (place_by (Some first) o.major) (highest (Some first) + 1) output unit o =
     ap (λ (q : Place). restamped_body q n output unit o) (p ∙ place_some first o.major there) ∙ ap (λ (k : ℕ). restamped_body (place_by (Some first) o.major) k output unit o) m in
-    let chosen : (if is_some o.major then restamped_body (place_by (Some first) o.major) (highest (Some first) + 1) output unit o else drop o.body unit) ≡ restamped_body (place_by (Some first) o.major) (highest (Some first) + 1) output unit o =
+    let chosen : (if is_some o.major then restamped_body (place_by (Some first) o.major) (highest (Some first) + 1) output unit o else drop o.body unit)
+    ≡ restamped_body (place_by (Some first) o.major) (highest (Some first) + 1) output unit o =
     ap (λ (b : Bool). if b then restamped_body (place_by (Some first) o.major) (highest (Some first) + 1) output unit o else drop o.body unit) there in
     ap (λ (xs : List ℕ). unit_bytes (written_unit input o.major o.entries.items xs)) (body_is ∙ whole ∙ sym chosen)

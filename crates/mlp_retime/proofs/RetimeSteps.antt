@@ -153,12 +153,14 @@ module _ (held : Held) (fifo : LeftFifo) (refusal : Option Refusal) (none : refu
 
   -- by what comes of placing it
   out_by : (x : Result (ℕ × LeftFifo) NoRoom) → placed (buffer_at number first fifo) (2 * g.outer.head.words) ≡ x
-      → retime_step (parts held fifo refusal) true bytes ≡ on_given top None is_open_behind retime_reader size (with_state new (behind_placed before x) (on_placed sync (out_of (pace_of (stream_kind sync) (stream_rate sync)) held.units) g.unit x))
+      → retime_step (parts held fifo refusal) true bytes ≡ on_given top None is_open_behind retime_reader size
+      (with_state new (behind_placed before x) (on_placed sync (out_of (pace_of (stream_kind sync) (stream_rate sync)) held.units) g.unit x))
   out_by x e =
       let here = parts held fifo refusal in
       let placing : placed before (length_of g.unit) ≡ x = (λ i. placed (sym ready.at_unit i) (words_are i)) ∙ e in
       at_end here bytes ∙ ap (λ (o : Option Refusal). stepped_at o false here (next_at here bytes)) none ∙ ap (stepped_at None false here) g.next_is
-      ∙ ap (λ (y : Result (ℕ × LeftFifo) NoRoom). on_given top None is_open_behind retime_reader size (with_state (after_top held g.unit) (behind_placed before y) (on_placed sync (out_of (pace_of (stream_kind sync) (stream_rate sync)) held.units) g.unit y))) placing
+      ∙ ap (λ (y : Result (ℕ × LeftFifo) NoRoom). on_given top None is_open_behind retime_reader size
+      (with_state (after_top held g.unit) (behind_placed before y) (on_placed sync (out_of (pace_of (stream_kind sync) (stream_rate sync)) held.units) g.unit y))) placing
       ∙ ap (λ (h : Held). on_given top None is_open_behind retime_reader size (with_state h (behind_placed before x) (on_placed sync (out_of (pace_of (stream_kind sync) (stream_rate sync)) held.units) g.unit x))) (sym g.held_is)
 
   pub retime_full : (e : NoRoom) → placed (buffer_at number first fifo) (2 * g.outer.head.words) ≡ Err e → (s : RetimeState) → parts held fifo refusal ≡ s → retime_step s true bytes ≡ Refuses (refused.NoRoom e)

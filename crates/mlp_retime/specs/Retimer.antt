@@ -91,7 +91,8 @@ pub record IsPlaced (before : LeftFifo) (bytes : ℕ) (behind : LeftFifo) (t : T
   pub output : t.output ≡ out_of (pace_of before.kind before.rate) before.count % 65536
 
 -- the unit of these bytes with this outer part is placed, and comes out with its timings
-pub record PutsUnit (first : MajorSync) (before : LeftFifo) (bytes : List ℕ) (o : Outer) (behind : LeftFifo) (out : List ℕ) : Type 0 where
+pub record PutsUnit (first : MajorSync) (before : LeftFifo) (bytes : List ℕ) (o : Outer)
+    (behind : LeftFifo) (out : List ℕ) : Type 0 where
   pub time : ℕ
   pub placed_is : placed before (2 * o.head.words) ≡ Ok (time, behind)
   pub out_is :

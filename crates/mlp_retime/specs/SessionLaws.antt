@@ -39,10 +39,13 @@ top_bytes = record { whole = (whole_bytes 0).whole }
 abbrev outer_at : Bool → Option MajorSync → Layout AccessUnit
 outer_at ended first = tested rule.AfterEnd (not ended) (access_unit first)
 
-none_stands : (ended : Bool) (first : Option MajorSync) (next : List ℕ) (o : AccessUnit) → cond ended (ltb (length next) 1) (is_open next) ≡ true → Found (outer_at ended first) (bits_of next) 0 o → ⊥
+none_stands : (ended : Bool) (first : Option MajorSync) (next : List ℕ) (o : AccessUnit)
+    → cond ended (ltb (length next) 1) (is_open next) ≡ true
+    → Found (outer_at ended first) (bits_of next) 0 o → ⊥
 unfolding tested
 none_stands true first next o e f = let never = f.meets.0 in absurd cc
-none_stands false first next o e f = open_none first next e o (record { fits = f.fits; meets = f.meets.1; stands = f.stands })
+none_stands false first next o e f =
+    open_none first next e o (record { fits = f.fits; meets = f.meets.1; stands = f.stands })
 
 pub top_open : IsOpenTest top is_open_behind
 top_open = record {
@@ -60,18 +63,23 @@ units_in : Result (List ℕ × RetimeState) Refusal → ℕ
 units_in (Ok x) = x.1.held.units
 units_in (Err r) = 0
 
-decoder_units : (held : Held) (o : AccessUnit) (none : Bool) → (if none then record (opened (highest o.major)) { units = held.units } else held).units ≡ held.units
+decoder_units : (held : Held) (o : AccessUnit) (none : Bool)
+    → (if none then record (opened (highest o.major)) { units = held.units } else held).units
+    ≡ held.units
 decoder_units held o true = refl
 decoder_units held o false = refl
 
-given_units : (held : Held) (fifo : LeftFifo) (t : RetimeState) (x : Result (List ℕ) Refusal) (out : List ℕ) → with_state held fifo x ≡ Ok (out, t) → t.held.units ≡ held.units
+given_units : (held : Held) (fifo : LeftFifo) (t : RetimeState) (x : Result (List ℕ) Refusal)
+    (out : List ℕ) → with_state held fifo x ≡ Ok (out, t) → t.held.units ≡ held.units
 unfolding units_in
 given_units held fifo t (Ok bytes) out e = sym (ap units_in e)
 given_units held fifo t (Err r) out e = absurd cc
 
-counted : (s t : RetimeState) (u : Taken AccessUnit (List Segment)) (out : List ℕ) → retime_given s u ≡ Ok (out, t) → t.held.units ≡ s.held.units + 1
+counted : (s t : RetimeState) (u : Taken AccessUnit (List Segment)) (out : List ℕ)
+    → retime_given s u ≡ Ok (out, t) → t.held.units ≡ s.held.units + 1
 counted s t u out e =
-    given_units (after_top s.held u.unit) _ t _ out e ∙ ap (λ (n : ℕ). n + 1) (decoder_units s.held u.unit.outer (is_none s.held.left.sync))
+    given_units (after_top s.held u.unit) _ t _ out e
+    ∙ ap (λ (n : ℕ). n + 1) (decoder_units s.held u.unit.outer (is_none s.held.left.sync))
 
 reader_is : IsReader top None is_open_behind retime_reader
 reader_is = record { counts = λ s t u out e. counted s t u out e }

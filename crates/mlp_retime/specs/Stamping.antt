@@ -34,7 +34,8 @@ restamped_from place output bytes o j (suc n) =
 -- .. of the first n, and what stands behind them
 abbrev pub restamped_body : Place → ℕ → ℕ → List ℕ → Outer → List ℕ
 restamped_body place n output bytes o =
-    bytes_of (restamped_from place output bytes o 0 n ++ bits_of (drop (o.body + 2 * end_before o.entries.items n) bytes))
+    bytes_of (restamped_from place output bytes o 0 n
+    ++ bits_of (drop (o.body + 2 * end_before o.entries.items n) bytes))
 
 -- the entries are as many as some first major sync tells
 pub record IsCounted (major : Option MajorSync) (entries : List DirEntry) : Type 0 where

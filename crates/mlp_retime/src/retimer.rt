@@ -81,7 +81,8 @@ fn put_retimed(
 )
     requires usable { IsUsable first.now }
     requires holds { HoldsUnit (highest (Some first.now) + 1) unit.now outer.now }
-    ensures { out.new.items ≡ unit_bytes (rewritten first.now (highest (Some first.now) + 1) input output unit.now outer.now) }
+    ensures { out.new.items
+        ≡ unit_bytes (rewritten first.now (highest (Some first.now) + 1) input output unit.now outer.now) }
 {
     if outer.major.is_none() {
         put_unit(input, outer, &unit[outer.body as usize..], out);

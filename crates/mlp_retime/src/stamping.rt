@@ -76,7 +76,8 @@ fn push_stamped(
 )
     requires place { IsPlace place.now }
     requires room { length out.old.items + length bytes.now ≤ 8190 }
-    ensures text { bits_of out.new.items ≡ bits_of out.old.items ++ restamped place.now output checked (bits_of bytes.now) }
+    ensures text { bits_of out.new.items
+        ≡ bits_of out.old.items ++ restamped place.now output checked (bits_of bytes.now) }
     ensures size { length out.new.items ≡ length out.old.items + length bytes.now }
 {
     let unknown = Known {

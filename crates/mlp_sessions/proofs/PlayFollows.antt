@@ -136,7 +136,8 @@ decode_works k bits t input output end p =
     works (playing k bits) (playing_is k bits) (Played k bits) decode_step decode_last (follows k bits) (player k bits) t input output end (none_played k bits) p
 
 -- .. and of the session behind it: where it ends well, all units were taken
-pub decode_took : (k bits : ℕ) (t : Player) (input output : Side) → Pumped decode_step decode_last 0 (player k bits) t input output (Ok tt) → IfSome input.before (λ all. (us : List Unit_of) × AreUnits (playing k bits) all us × Played k bits us t)
+pub decode_took : (k bits : ℕ) (t : Player) (input output : Side) → Pumped decode_step decode_last 0 (player k bits) t input output (Ok tt)
+    → IfSome input.before (λ all. (us : List Unit_of) × AreUnits (playing k bits) all us × Played k bits us t)
 decode_took k bits t input output p =
     took_all (playing k bits) (playing_is k bits) (Played k bits) decode_step decode_last (follows k bits) (player k bits) t input output (none_played k bits) p
 

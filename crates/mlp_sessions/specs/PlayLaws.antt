@@ -25,21 +25,28 @@ whole_open k = record {
 }
 
 -- a session that reads whole units and counts them is one
-pub whole_lawful : {S : Type 0} (k : ℕ) (reader : Reader S Left AccessUnit (List Segment)) → IsReader (whole k) (Some k) is_open_behind reader → IsSession (read_step (whole k) (Some k) is_open_behind reader) reader.count
-whole_lawful k reader counts = read_lawful (whole k) (Some k) is_open_behind reader (whole_is k) (whole_bytes k) (whole_open k) counts
+pub whole_lawful : {S : Type 0} (k : ℕ) (reader : Reader S Left AccessUnit (List Segment))
+    → IsReader (whole k) (Some k) is_open_behind reader
+    → IsSession (read_step (whole k) (Some k) is_open_behind reader) reader.count
+whole_lawful k reader counts = read_lawful (whole k) (Some k) is_open_behind reader (whole_is k)
+    (whole_bytes k) (whole_open k) counts
 
 -- each unit is counted
 units_in : Result (List ℕ × Player) Refusal → ℕ
 units_in (Ok x) = x.1.held.units
 units_in (Err r) = 0
 
-given_units : (s t : Player) (x : Result (List ℕ) Refusal) (out : List ℕ) → with_session s x ≡ Ok (out, t) → t.held.units ≡ s.held.units
+given_units : (s t : Player) (x : Result (List ℕ) Refusal) (out : List ℕ)
+    → with_session s x ≡ Ok (out, t) → t.held.units ≡ s.held.units
 unfolding units_in
 given_units s t (Ok bytes) out e = sym (ap units_in e)
 given_units s t (Err r) out e = absurd cc
 
 decode_counts : (k : ℕ) → IsReader (whole k) (Some k) is_open_behind decode_reader
-decode_counts k = record { counts = λ s t u out e. given_units (after_played s u.unit) t (unit_played s.held.k s.bits s.frames s.held.left u.unit) out e }
+decode_counts k = record {
+  counts = λ s t u out e. given_units (after_played s u.unit) t
+      (unit_played s.held.k s.bits s.frames s.held.left u.unit) out e;
+}
 
 lawful_at : (k : ℕ) → IsSession (read_step (whole k) (Some k) is_open_behind decode_reader) decode_count
 lawful_at k = whole_lawful k decode_reader (decode_counts k)

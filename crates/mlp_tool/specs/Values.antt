@@ -29,7 +29,8 @@ bits_by (Some word) = bits_of word
 -- ---- of commands that encode
 
 abbrev pub kind_of : List ℕ → Option Kind
-kind_of word = if bytes_eq word (codes "mlp") then Some Fbb else if bytes_eq word (codes "truehd") then Some Fba else None
+kind_of word = if bytes_eq word (codes "mlp") then Some Fbb
+    else if bytes_eq word (codes "truehd") then Some Fba else None
 
 -- samples a second
 abbrev pub rate_of : List ℕ → Option ℕ

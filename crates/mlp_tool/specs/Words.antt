@@ -100,7 +100,8 @@ profile_by kind rate channels depth mix = None
 abbrev pub profile_given : List (List ℕ) → Option Profile
 profile_given words =
     profile_by (kind_given words) (option_and_then rate_of (value_of Rate words))
-    (option_and_then channels_of (value_of Channels words)) (option_and_then depth_of (value_of Bits words)) (mix_given words)
+    (option_and_then channels_of (value_of Channels words))
+    (option_and_then depth_of (value_of Bits words)) (mix_given words)
 
 abbrev pub units_given : List (List ℕ) → Option ℕ
 units_given words = option_and_then units_of (value_of Units words)

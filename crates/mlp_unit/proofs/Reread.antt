@@ -20,7 +20,8 @@ use Rattle.mlp_major.proofs.RuleLaws.{met, both}
 use Rattle.mlp_major.proofs.SyncRules.{keeps_rules, usable_of, unchanged_of}
 use Rattle.mlp_major.proofs.SyncWriting.{fits_any, under_fits, under_text}
 use Rattle.mlp_unit.specs.Directory.{directory, directory_size, entry, entry_size, may_stand}
-use Rattle.mlp_unit.specs.AccessUnit.{AccessUnit, access_unit, head, head_fields, half_byte_sum, in_force, stream_kind, substreams_of, is_restart_flag, major_size, behind_sync, parts, parity_of, further, first_bad_end, directory_place, rules}
+use Rattle.mlp_unit.specs.AccessUnit.{AccessUnit, access_unit, head, head_fields, half_byte_sum, in_force, stream_kind, substreams_of, is_restart_flag, major_size, behind_sync, parts}
+use Rattle.mlp_unit.specs.AccessUnit.{parity_of, further, first_bad_end, directory_place, rules}
 use Rattle.mlp_unit.specs.Written.{MajorFits, CountFits, FirstUsable, MayFollow, Writable, unit_size, written_head, written_unit}
 use Rattle.mlp_unit.proofs.UnitLaws.{access_unit_size, head_takes, entry_takes}
 use Rattle.mlp_unit.proofs.WrittenLaws.{major_even, directory_even, no_sync, behind_first_bit, directory_first, directory_first_fits}

@@ -66,5 +66,6 @@ returns-clause-segment c =
     let behind : List FrameCode = take start all ++ (codes ++ drop (length all - start) (drop start all)) in
     let sent_count = codes_in_count (block_sent j p c.args.restart before frames).behind.state.rows.items (sent_in j p (is_some c.args.restart) before frames) frames in
     let fresh_count = codes_in_count [] [] frames in
-    let count : length behind ≡ length c.push_frames.new.codes.items = ap length put ∙ length-append old (block_sent j p c.args.restart before frames).codes ∙ omega (arith, sent_count, fresh_count, length-append old fresh, ap length (c.push_frames.ensures frames refl)) in
+    let count : length behind ≡ length c.push_frames.new.codes.items = ap length put ∙ length-append old (block_sent j p c.args.restart before frames).codes
+    ∙ omega (arith, sent_count, fresh_count, length-append old fresh, ap length (c.push_frames.ensures frames refl)) in
     segment_put s c.push.new.self _ (block_sent j p c.args.restart before frames) head (written_back c.push_frames.new.codes.items behind count ∙ put)

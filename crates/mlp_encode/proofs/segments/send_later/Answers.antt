@@ -39,7 +39,8 @@ block_is : (j : ℕ) (p : Profile) (before : Force) (frames : List CodedFrame) �
 unfolding block_sent
 block_is j p before frames = refl
 
-codes_are : (j : ℕ) (p : Profile) (before : Force) (frames : List CodedFrame) → (block_sent j p None before frames).codes ≡ codes_in (behind_params (given_in j p false before frames) before.state).rows.items (sent_in j p false before frames) frames
+codes_are : (j : ℕ) (p : Profile) (before : Force) (frames : List CodedFrame)
+    → (block_sent j p None before frames).codes ≡ codes_in (behind_params (given_in j p false before frames) before.state).rows.items (sent_in j p false before frames) frames
 unfolding block_sent
 codes_are j p before frames = refl
 

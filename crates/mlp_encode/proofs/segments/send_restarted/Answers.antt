@@ -27,7 +27,8 @@ begun : (p : Profile) (r : Restart) (n : ℕ) (s : State) (o : Option State) →
 begun p r n s o e there is = some_is s (in_force p.kind n r []) o there is ∙ ap (λ (m : ℕ). in_force p.kind m r []) e
 
 -- the first block can be sent
-first_block : (p : Profile) (j : ℕ) (r : Restart) (frames : List CodedFrame) (state s : Option State) (x : State) → SendsSegment p j (Some r) state frames → s ≡ Some x → s ≡ Some (in_force p.kind (length frames) r []) → IsSendable j p true x (take 8 frames)
+first_block : (p : Profile) (j : ℕ) (r : Restart) (frames : List CodedFrame) (state s : Option State) (x : State) → SendsSegment p j (Some r) state frames → s ≡ Some x
+    → s ≡ Some (in_force p.kind (length frames) r []) → IsSendable j p true x (take 8 frames)
 first_block p j r frames state s x h there is =
     let le = first_last j h.which in
     subst (λ (y : State). IsSendable j p true y (take 8 frames)) (sym (begun p r (length frames) x s h.frames.count there is))

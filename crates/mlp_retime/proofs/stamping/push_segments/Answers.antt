@@ -20,7 +20,8 @@ loop-substream-preserved c =
     let p = segment_long c.args.unit.now c.segment_bytes-bytes.result.now c.args.outer.now j c.requires.inside there c.segment_bytes-bytes.ensures in
     let back : j + 1 - 1 ≡ j = omega arith in
     let less : end_at c.args.outer.now.entries.items (j + 1 - 1) ≡ end_at c.args.outer.now.entries.items j = ap (end_at c.args.outer.now.entries.items) back in (
-      one_appended c.args.place.now c.args.output c.args.unit.now c.args.outer.now j c.loop-substream.out.items c.push_stamped.new.out.items c.segment_bytes-bytes.result.now c.deref.result.now c.from.result _ there c.deref.ensures.0 c.from.ensures
+      one_appended c.args.place.now c.args.output c.args.unit.now c.args.outer.now j c.loop-substream.out.items c.push_stamped.new.out.items c.segment_bytes-bytes.result.now c.deref.result.now
+          c.from.result _ there c.deref.ensures.0 c.from.ensures
           c.segment_bytes-bytes.ensures c.loop-substream.invariant.0 c.push_stamped.ensures.text,
       omega (arith, c.push_stamped.ensures.size, c.loop-substream.invariant.1, p.0, end_behind c.args.outer.now.entries.items (j + 1) (omega arith), less),
     )

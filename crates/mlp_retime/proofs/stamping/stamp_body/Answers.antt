@@ -18,7 +18,16 @@ push_bytes-requires c =
     let end = c.segment_range-end.result.1 in
     let last : c.args.count - 1 < length c.args.outer.now.entries.items = omega (arith, c.requires.some, c.requires.there) in
     let place = segment_place c.args.unit.now c.args.outer.now (c.args.count - 1) c.requires.inside last in
-    omega (arith, place.1, ap (λ (range : ℕ × ℕ). range.1) c.segment_range-end.ensures, end_behind c.args.outer.now.entries.items c.args.count c.requires.some, c.push_segments.ensures.size, ap (λ (xs : List ℕ). length xs) c.bytes_from.ensures, length-drop end c.args.unit.now, c.requires.small)
+    omega (
+      arith,
+      place.1,
+      ap (λ (range : ℕ × ℕ). range.1) c.segment_range-end.ensures,
+      end_behind c.args.outer.now.entries.items c.args.count c.requires.some,
+      c.push_segments.ensures.size,
+      ap (λ (xs : List ℕ). length xs) c.bytes_from.ensures,
+      length-drop end c.args.unit.now,
+      c.requires.small,
+    )
 
 pub returns-clause-text : goal.returns-clause-text
 returns-clause-text c =

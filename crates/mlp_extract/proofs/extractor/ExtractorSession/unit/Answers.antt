@@ -33,7 +33,8 @@ returns-clause-unit c = elim c.match-unit.branch [
       let same : c.self.inside.presentation ≡ c.self.inside.decoder.k = sym c.self.invariant.k_is in
       let latest : option_copied w.last_outer.result ≡ Some g.outer = w.last_outer.ensures.value ∙ g.latest_is in
       let out : c.match-unit.out.items ≡ extracted_bytes c.self.inside.presentation (unit_with (take w.in-Ok.size c.args.next.now) g.outer) =
-      ap (λ (b : _). b.items) w.out-is ∙ subst (λ (o : Option Outer). IfSome o (λ outer. w.put_latest.new.out.items ≡ extracted_bytes c.self.inside.presentation (unit_with (take w.in-Ok.size c.args.next.now) outer))) latest w.put_latest.ensures in
+      ap (λ (b : _). b.items) w.out-is ∙ subst (λ (o : Option Outer). IfSome o
+      (λ outer. w.put_latest.new.out.items ≡ extracted_bytes c.self.inside.presentation (unit_with (take w.in-Ok.size c.args.next.now) outer))) latest w.put_latest.ensures in
       ap (λ (held : Held). extract_step held true c.args.next.now) (sym c.self.view_is)
       ∙ extract_taken c.self.inside.decoder c.unit.new.self c.args.next.now c.match-unit.out.items w.in-Ok.size _ g (out ∙ ap (λ (k : ℕ). extracted_bytes k (unit_with (take w.in-Ok.size c.args.next.now) g.outer)) same)
       ∙ ap (λ (r : Result ℕ Refusal). moved r c.match-unit.out.items c.unit.new.self) (sym w.result-is))

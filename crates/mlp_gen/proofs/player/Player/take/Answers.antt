@@ -16,7 +16,8 @@ invariant_of-self c =
     let g = gave held c.deref_mut.result.now c.unit-taken.new.self c.args.unit.now c.unit-taken.new.out.items c.unit-taken.result can.0 c.deref_mut.ensures.value c.unit-taken.ensures.unit in
     let e = extracted held c.unit-taken.new.self c.unit-extracted.new.self c.args.unit.now c.unit-extracted.new.out.items c.unit-taken.new.out.items g c.unit-extracted.result
     (subst (λ (h : Held). extract_step h true c.args.unit.now ≡ moved c.unit-extracted.result c.unit-extracted.new.out.items c.unit-extracted.new.self) (c.deref_mut-2.ensures.value ∙ c.self.invariant.same) c.unit-extracted.ensures.unit) in
-    still_playing c.self.inside.presentation held c.unit-taken.new.self c.unit-extracted.new.self c.args.unit.now c.unit-taken.new.out.items (c.self.inside.given + c.len.result) (c.self.inside.extracted + c.len-2.result) g c.self.invariant.k_is c.self.invariant.most e.same
+    still_playing c.self.inside.presentation held c.unit-taken.new.self c.unit-extracted.new.self c.args.unit.now c.unit-taken.new.out.items (c.self.inside.given + c.len.result)
+    (c.self.inside.extracted + c.len-2.result) g c.self.invariant.k_is c.self.invariant.most e.same
     (omega (arith, c.self.invariant.few_frames, c.len.ensures.fits)) (omega (arith, c.self.invariant.few_bytes, c.len-2.ensures.fits))
 
 pub returns : goal.returns
@@ -32,7 +33,8 @@ returns c =
     let all = samples ∙ ap (λ (n : ℕ). packed 24 n c.deref.result.now) channels ∙ ap (λ rows. packed 24 (channels_of held.k) rows) c.deref.ensures.0 in
     let made : Played = record { held = c.unit-taken.new.self; frames = c.self.inside.given + c.len.result; sum = c.add_bytes-self-inside.result; extracted = c.self.inside.extracted + c.len-2.result } in
     subst (λ (x : Played). Took c.args.unit.now x made) c.self.view_is
-    (took before c.args.unit.now c.unit-extracted.new.out.items c.pack_unit-packed.new.out.items c.unit-taken.new.self c.unit-taken.new.out.items (c.self.inside.given + c.len.result) c.add_bytes-self-inside.result (c.self.inside.extracted + c.len-2.result) g
+    (took before c.args.unit.now c.unit-extracted.new.out.items c.pack_unit-packed.new.out.items c.unit-taken.new.self c.unit-taken.new.out.items (c.self.inside.given + c.len.result)
+    c.add_bytes-self-inside.result (c.self.inside.extracted + c.len-2.result) g
     (ap (λ (n : ℕ). c.self.inside.given + n) c.len.ensures.value) all
     (c.add_bytes-self-inside.ensures ∙ ap (λ (xs : List ℕ). (c.self.inside.sum + sum xs) % 2 ^ 32) c.deref-2.ensures.0) e.bytes_are
     (ap (λ (n : ℕ). c.self.inside.extracted + n) c.len-2.ensures.value))

@@ -49,7 +49,8 @@ invariant_of-self c =
       usable = c.in-Ok.ensures.usable;
       is_top = λ none. c.in-Ok.ensures.is_top;
       buffer = λ none some.
-          buffer_behind c.self.inside.decoder c.self.inside.fifo c.self.inside.refusal c.in_default.is t (c.self.invariant.buffer c.in_default.is) c.args.next.now c.take_next.new.decoder c.in-Ok.size g c.unwrap-first.result.now first c.units-number.result c.units-number.ensures _ _ c.put_next.new.fifo c.in-Ok-put_next.ensures.puts.placed_is;
+          buffer_behind c.self.inside.decoder c.self.inside.fifo c.self.inside.refusal c.in_default.is t (c.self.invariant.buffer c.in_default.is) c.args.next.now c.take_next.new.decoder c.in-Ok.size
+          g c.unwrap-first.result.now first c.units-number.result c.units-number.ensures _ _ c.put_next.new.fifo c.in-Ok-put_next.ensures.puts.placed_is;
     }
 
 pub returns-in-Ok-put_next-clause-unit : goal.returns-in-Ok-put_next-clause-unit
@@ -58,8 +59,10 @@ returns-in-Ok-put_next-clause-unit c =
     let g = c.in-Ok.ensures.taken in
     let same = told_outer c.last_outer.result c.unwrap-outer.result c.take_next.new.decoder.latest g.outer c.unwrap-outer.ensures c.last_outer.ensures.value g.latest_is in
     let first = first_is c.major.result c.unwrap-first.result c.take_next.new.decoder.left.sync c.unwrap-first.ensures c.major.ensures.value in
-    let puts = subst (λ (o : Outer). PutsUnit c.unwrap-first.result.now (buffer_at c.units-number.result c.unwrap-first.result.now c.self.inside.fifo) (take c.in-Ok.size c.args.next.now) o c.put_next.new.fifo c.put_next.new.out.items) same c.in-Ok-put_next.ensures.puts in
-    retime_taken c.self.inside.decoder c.self.inside.fifo c.self.inside.refusal c.in_default.is t (c.self.invariant.buffer c.in_default.is) c.args.next.now c.take_next.new.decoder c.in-Ok.size g c.unwrap-first.result.now first c.units-number.result c.units-number.ensures
+    let puts = subst (λ (o : Outer). PutsUnit c.unwrap-first.result.now (buffer_at c.units-number.result c.unwrap-first.result.now c.self.inside.fifo) (take c.in-Ok.size c.args.next.now) o
+    c.put_next.new.fifo c.put_next.new.out.items) same c.in-Ok-put_next.ensures.puts in
+    retime_taken c.self.inside.decoder c.self.inside.fifo c.self.inside.refusal c.in_default.is t (c.self.invariant.buffer c.in_default.is) c.args.next.now c.take_next.new.decoder c.in-Ok.size g
+    c.unwrap-first.result.now first c.units-number.result c.units-number.ensures
     c.put_next.new.fifo c.put_next.new.out.items puts c.args.self.now c.self.view_is
     ∙ ap (λ (r : Option Refusal). Takes c.in-Ok.size c.put_next.new.out.items (record { held = c.take_next.new.decoder; fifo = c.put_next.new.fifo; refusal = r })) (sym c.in_default.is)
 
@@ -70,8 +73,10 @@ returns-in-Err-put_next-clause-unit c =
     let same = told_outer c.last_outer.result c.unwrap-outer.result c.take_next.new.decoder.latest g.outer c.unwrap-outer.ensures c.last_outer.ensures.value g.latest_is in
     let first = first_is c.major.result c.unwrap-first.result c.take_next.new.decoder.left.sync c.unwrap-first.ensures c.major.ensures.value in
     let late = subst (λ (o : Outer). placed (buffer_at c.units-number.result c.unwrap-first.result.now c.self.inside.fifo) (2 * o.head.words) ≡ Err c.in-Err-put_next.no_room) same c.in-Err-put_next.ensures.puts in
-    retime_full c.self.inside.decoder c.self.inside.fifo c.self.inside.refusal c.in_default.is t (c.self.invariant.buffer c.in_default.is) c.args.next.now c.take_next.new.decoder c.in-Ok.size g c.unwrap-first.result.now first c.units-number.result c.units-number.ensures c.in-Err-put_next.no_room late c.args.self.now c.self.view_is
+    retime_full c.self.inside.decoder c.self.inside.fifo c.self.inside.refusal c.in_default.is t (c.self.invariant.buffer c.in_default.is) c.args.next.now c.take_next.new.decoder c.in-Ok.size g
+    c.unwrap-first.result.now first c.units-number.result c.units-number.ensures c.in-Err-put_next.no_room late c.args.self.now c.self.view_is
 
 pub returns-in-Err-clause-unit : goal.returns-in-Err-clause-unit
 returns-in-Err-clause-unit c =
-    retime_declined c.self.inside.decoder c.self.inside.fifo c.self.inside.refusal c.in-Err.declined c.refusal_of-refusal.result c.args.next.now c.in_default.is c.in-Err.ensures.taken c.refusal_of-refusal.ensures c.args.self.now c.self.view_is
+    retime_declined c.self.inside.decoder c.self.inside.fifo c.self.inside.refusal c.in-Err.declined c.refusal_of-refusal.result c.args.next.now c.in_default.is c.in-Err.ensures.taken
+    c.refusal_of-refusal.ensures c.args.self.now c.self.view_is

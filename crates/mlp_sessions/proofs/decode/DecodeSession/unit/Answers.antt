@@ -14,7 +14,8 @@ returns-in_err-self-inside-in-Ok c =
 
 pub returns-in_ok-self-inside-in-Ok : goal.returns-in_ok-self-inside-in-Ok
 returns-in_ok-self-inside-in-Ok c =
-    decode_taken c.self.inside.decoder c.self.inside.bits c.self.inside.given c.args.next.now c.put_frames.new.out.items c.in-Ok.size c.in_ok-self-inside-in-Ok.field-0 c.channels-channels.result c.unit.new.out.items c.deref.result.now c.unit.new.self
+    decode_taken c.self.inside.decoder c.self.inside.bits c.self.inside.given c.args.next.now c.put_frames.new.out.items c.in-Ok.size c.in_ok-self-inside-in-Ok.field-0 c.channels-channels.result
+    c.unit.new.out.items c.deref.result.now c.unit.new.self
     c.in-Ok.ensures.unit c.channels-channels.ensures c.deref.ensures.0 c.in_ok-self-inside-in-Ok.ensures.ok.0 c.in_ok-self-inside-in-Ok.ensures.ok.1 c.args.self.now c.self.view_is
 
 pub returns-in-Err : goal.returns-in-Err
