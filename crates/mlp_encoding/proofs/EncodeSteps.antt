@@ -10,10 +10,11 @@ use Rattle.mlp_syntax.specs.declared.refusal.NoRoom.{NoRoom}
 use Rattle.mlp_syntax.specs.declared.refusal.PcmFault.{PcmFault}
 use Rattle.mlp_stream.specs.declared.refusal.Refusal.TheVariants as refused
 use Rattle.mlp_stream.specs.Moves.{Move, Waits, Takes, Refuses}
+use Rattle.mlp_fifo.specs.LeftFifo.{LeftFifo}
 use Rattle.mlp_fold.specs.declared.profile.Profile.{Profile}
 use Rattle.mlp_fold.specs.Profile.{checked}
 use Rattle.mlp_encode.specs.Left.{Going, Left}
-use Rattle.mlp_encode.specs.Unit.{next_sent, AreNext}
+use Rattle.mlp_encode.specs.Unit.{SentUnit, Body, sent_at, next_sent, AreNext}
 use Rattle.mlp_encode.specs.Encoding.{answered}
 use Rattle.mlp_encoding.specs.Pcm.{full_size, frames_in, data_in, is_seen}
 use Rattle.mlp_encoding.specs.Encoding.{Encoding, page, less, part_of, is_last, is_open, fault_in, on_sent, on_fault, sends, unit_step, data_step, on_profile, on_left, encode_step, IsEncode}
@@ -140,6 +141,14 @@ module _ (left : Left) (to_come : Option ℕ) (moves : ℕ) (profile : Profile) 
       ok_is e = cc
 
 -- ---- what a unit leaves
+
+abbrev pub LeavesNext : Profile → ℕ → Result (List ℕ × Left) NoRoom → Type 0
+LeavesNext profile units (Ok x) = (g : Going) × (x.1 ≡ Ok g) × (g.profile ≡ profile) × (g.units ≡ units + 1)
+LeavesNext profile units (Err e) = Unit {0}
+
+pub leaves_at : (g : Going) (frames : List (List ℤ)) (s : SentUnit) (body : Body) (r : Result (ℕ × LeftFifo) NoRoom) → LeavesNext g.profile g.units (sent_at g frames s body r)
+leaves_at g frames s body (Ok x) = (_, refl, refl, refl)
+leaves_at g frames s body (Err e) = tt
 
 -- ---- whether it waits
 
