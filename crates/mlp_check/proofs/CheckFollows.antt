@@ -38,11 +38,12 @@ use Rattle.mlp_fifo.specs.Checked.{checked_after}
 use Rattle.mlp_fifo.proofs.CheckedLaws.{none_timed, checked_leaves}
 use Rattle.mlp_present.specs.Decoding.{is_open_behind, last_of, no_unit, after_unit, timing_by, channels_by}
 use Rattle.mlp_samples.proofs.SyncLaws.{unit_usable, unit_synced}
-use Rattle.mlp_sessions.proofs.NoUnit.{none_read}
+use Rattle.mlp_sessions.proofs.PlayFollows.{none_there}
 use Rattle.mlp_samples.specs.Samples.{frames_by_steps}
 use Rattle.mlp_check.specs.declared.report.Report.{Report}
 use Rattle.mlp_check.specs.Checking.{output_timing, timing_in, timed_unit, IsReport, checking}
 use Rattle.mlp_samples.specs.Behind.{left_behind}
+use Rattle.mlp_samples.proofs.Streams.{in_force_some}
 use Rattle.mlp_check.specs.Check.{CheckState, check_opened, begun, one_if, after_checked, check_reader, check_step, report_of, report_after, check_last, HasChecked, Checked}
 use Rattle.mlp_check.proofs.Restarts.{timing_is}
 use Rattle.mlp_check.proofs.Reports.{checking_is}
@@ -110,16 +111,12 @@ later_begun : (n : ℕ) (o : Option MajorSync) (checker : LeftChecker) → 0 < n
 later_begun n None checker some = refl
 later_begun n (Some m) checker some = let no : (n == 0) ≡ false = grind (arith, nat_tests) in rw no refl
 
-sync_kept : (sync o : Option MajorSync) → is_some sync ≡ true → in_force sync o ≡ sync
-sync_kept None o e = absurd cc
-sync_kept (Some m) o e = refl
-
 begun_on : (k : ℕ) (us : List Unit_of) (u : Unit_of) (s : CheckState) → Checked k us s → is_some (in_force (left_behind k us).sync u.outer.major) ≡ true
     → LeavesChecker (in_force (left_behind k us).sync u.outer.major) (map timed_unit us) (begun s.held.units u.outer.major s.checker)
 begun_on k [] u s h some = first_begun u.outer.major s.held.units s.checker h.units some
 begun_on k (v ∷ vs) u s h some =
     let has = h.some (λ e. absurd cc) in
-    let same = sync_kept (left_behind k (v ∷ vs)).sync u.outer.major has.synced in
+    let same = in_force_some (left_behind k (v ∷ vs)).sync u.outer.major has.synced in
     subst (λ (sync : Option MajorSync). LeavesChecker sync (map timed_unit (v ∷ vs)) (begun s.held.units u.outer.major s.checker)) (sym same)
     (subst (LeavesChecker (left_behind k (v ∷ vs)).sync (map timed_unit (v ∷ vs))) (sym (later_begun s.held.units u.outer.major s.checker (omega (arith, h.units)))) has.timed)
 
@@ -173,10 +170,6 @@ reads_on k = record {
 }
 
 -- ---- the end
-
-none_there : (k : ℕ) → ((whole k).outer (start k)).read (bits_of []) 0 ≡ Err (broken rule.UnitHeader 0)
-unfolding tested
-none_there k = none_read None
 
 none_next : (k : ℕ) → next_behind (checking k) (Checked k) [] [] ≡ Err no_unit
 none_next k = next_broken (whole k) (Some k) 0 (start k) [] (broken rule.UnitHeader 0) (none_there k)

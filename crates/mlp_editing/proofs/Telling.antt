@@ -13,14 +13,11 @@ use Rattle.mlp_answers.specs.declared.failure.Failure.TheVariants.{Usage, OutOfM
 use Rattle.mlp_answers.specs.Failures.{failure_by}
 use Rattle.mlp_recover.specs.Spans.{AreSpans}
 use Rattle.mlp_recover.specs.declared.span.Span.{Span}
+use Rattle.mlp_wave.proofs.SavedLaws.{nothing_put}
 use Rattle.mlp_editing.specs.Copying.{copy_step, copy_last}
 use Rattle.mlp_editing.specs.Told.{all_told, Puts, AreSpansOf}
 use Rattle.mlp_editing.specs.Mended.{IsMended, Tells, Wrote, Mended}
 use Rattle.mlp_editing.proofs.Copies.{copied_all, copied_long, copied_refused}
-use Rattle.mlp_editing.proofs.Texts.{none_told}
-
-nothing_put : (before behind : Option (List ℕ)) → behind ≡ before → Appends before behind []
-nothing_put before behind e = subst (λ (o : Option (List ℕ)). Appends before o []) (sym e) (none_told before)
 
 -- all that was copied is held
 kept_is : (put kept : List ℕ) → Appends (Some []) (Some kept) put → kept ≡ put

@@ -1,7 +1,7 @@
 -- The text of what is recovered, written piece by piece.
 use Rattle.std.proofs.Common.{◌≡◌, ℕ, suc, ◌+◌, ◌*◌, ◌<◌, ◌≤◌, true, List, [], ◌∷◌, ◌++◌, length, take, drop, get_or, Result, Ok, Err, Option, Some, None, IfSome, refl, sym, ap, subst, ◌∙◌, arith, length-append, ℤ}
 use Rattle.std.specs.Prelude.{min, All, slice_range}
-use Rattle.std.proofs.lemmas.List.{length-set, length-take-le, length-map, take_all, take_more, take-append-drop, append-nil, get_or-map}
+use Rattle.std.proofs.lemmas.List.{length-take-le, length-map, take_all, take_more, take-append-drop, append-nil, get_or-map}
 use Rattle.std.proofs.lemmas.List.Concat.{flat_map-append}
 use Rattle.std.proofs.lemmas.List.Elements.{All-nil, All-head, All-tail, All-append, All-map}
 use Rattle.std.proofs.Math.Seq.{take-append_seam}
@@ -22,6 +22,7 @@ use Rattle.mlp_answers.specs.Answers.{Answer, refusing}
 use Rattle.mlp_answers.specs.Works.{Wrote, Begun}
 use Rattle.mlp_pcm.specs.Samples.{sample_bytes, row_bytes, packed}
 use Rattle.mlp_output.specs.Output.{placed}
+use Rattle.mlp_output.proofs.Places.{length-placed}
 use Rattle.mlp_contents.specs.Units.{Left, Unit_of, start, whole, after, placed_by, frames_out}
 use Rattle.mlp_samples.specs.Samples.{frames_by_steps, samples}
 use Rattle.mlp_samples.proofs.Streams.{samples_are}
@@ -42,9 +43,6 @@ use Rattle.mlp_editing.specs.Told.{kept_line, told, all_told, Puts, IsSpan, AreS
 pub puts_behind : (a b c : Option (List ℕ)) (xs ys : List ℕ) (r : Result Unit Stop) → Appends a b xs → Puts (record { before = b; behind = c }) ys r → Puts (record { before = a; behind = c }) (xs ++ ys) r
 puts_behind a b c xs ys (Ok x) first w = Appends-append a b c xs ys first w
 puts_behind a b c xs ys (Err stop) first w = in_second a b c xs ys stop first w
-
-pub puts_front : (output : Side) (xs ys : List ℕ) (stop : Stop) → IsWriteStop output xs stop → IsWriteStop output (xs ++ ys) stop
-puts_front output xs ys stop w = in_first output xs ys stop w
 
 -- ---- the samples of a stream
 
@@ -114,14 +112,9 @@ rows_long c (row ∷ rows) le eight =
     next : (n : ℕ) → n + 1 ≡ suc n
     next n = omega arith
 
-placed_long : (assign : List ℕ) (heard : List ℤ) → length (placed assign heard) ≡ 8
-placed_long [] heard = refl
-placed_long (a ∷ assign) [] = refl
-placed_long (a ∷ assign) (v ∷ heard) = length-set (placed assign heard) a v ∙ placed_long assign heard
-
 out_eight : (force : Option State) (heard : List (List ℤ)) → All HasEight (placed_by force heard)
 out_eight None heard = All-nil HasEight
-out_eight (Some s) heard = All-map HasEight (placed s.restart.assign.items) heard (λ i d lt. placed_long s.restart.assign.items _)
+out_eight (Some s) heard = All-map HasEight (placed s.restart.assign.items) heard (λ i d lt. length-placed s.restart.assign.items _)
 
 steps_eight : (k : ℕ) (left : Left) (us : List Unit_of) → All HasEight (frames_by_steps k left us)
 steps_eight k left [] = All-nil HasEight
@@ -157,7 +150,7 @@ module _ (k : ℕ) (bytes : List ℕ) (span : Span) (us : List Unit_of) (is : Is
   -- a write failed in the line
   pub kept_stops : (output : Side) (line : List ℕ) (n : ℕ) (stop : Stop) → line ≡ line_of n → n ≡ span.frames * (3 * min span.channels 8) → IsWriteStop output line stop → IsWriteStop output (told k (Kept span.first span.past us)) stop
   kept_stops output line n stop is_line size w =
-      subst (λ (text : List ℕ). IsWriteStop output text stop) (whole_text n size) (puts_front output (line_of n) (decoded k 24 us) stop (subst (λ (text : List ℕ). IsWriteStop output text stop) is_line w))
+      subst (λ (text : List ℕ). IsWriteStop output text stop) (whole_text n size) (in_first output (line_of n) (decoded k 24 us) stop (subst (λ (text : List ℕ). IsWriteStop output text stop) is_line w))
 
   pub kept_puts : (a b c : Option (List ℕ)) (line : List ℕ) (n : ℕ) (r : Result Unit Stop) → line ≡ line_of n → n ≡ span.frames * (3 * min span.channels 8) → Appends a b line → Puts (record { before = b; behind = c }) (decoded k 24 us) r
       → Puts (record { before = a; behind = c }) (told k (Kept span.first span.past us)) r

@@ -10,7 +10,7 @@ use Rattle.mlp_bits.specs.Bits.{bits}
 use Rattle.mlp_bits.specs.Checks.{restart_check_of}
 use Rattle.mlp_bits.proofs.BitLists.{length-bits}
 use Rattle.mlp_layout.specs.Layout.{Layout, number_of, seen, ruled, part, made, item}
-use Rattle.mlp_layout.specs.Combined.{under, fixed, checked, flag, chosen, present, group, times, each, series}
+use Rattle.mlp_layout.specs.Combined.{under, fixed, checked, flag, chosen, present, times, each, series}
 use Rattle.mlp_params.specs.RestartHeader.{assigned, restart_fields, restart}
 use Rattle.mlp_params.specs.Matrices.{rows}
 use Rattle.mlp_residual.specs.Frames.{bypass_bit, bypass_bits, code, code_at, no_code, unpacked}
@@ -24,14 +24,6 @@ flag_long true = length-bits 1 1
 flag_long false = length-bits 1 0
 
 -- ---- values that are there or not
-
-pub none_long : {A : Type 0} (l : Layout A) → length ((group true l).spelling None) ≡ 1
-unfolding group chosen part present made
-none_long l = omega (arith, length-append (flag.spelling false) [], flag_long false)
-
-pub some_long : {A : Type 0} (l : Layout A) (x : A) → length ((group true l).spelling (Some x)) ≡ 1 + length (l.spelling x)
-unfolding group chosen part present seen
-some_long l x = omega (arith, length-append (flag.spelling true) (l.spelling x), flag_long true)
 
 pub there_most : {A : Type 0} (l : Layout A) (o : Option A) (m : ℕ) → ((x : A) → o ≡ Some x → length (l.spelling x) ≤ m) → length ((present (is_some o) l).spelling o) ≤ m
 unfolding present chosen seen made

@@ -29,6 +29,7 @@ use Rattle.mlp_fold.specs.declared.profile.Mix.TheVariants.{Split, Fold, Bypass,
 use Rattle.mlp_fold.specs.declared.coding.CodedFrame.{CodedFrame}
 use Rattle.mlp_fold.specs.Rows.{steps_of}
 use Rattle.mlp_fold.specs.Substreams.{first_channel, last_channel}
+use Rattle.mlp_search.proofs.FilterLaws.{none_length, some_length}
 use Rattle.mlp_encode.specs.Numbers.{low_zeros}
 use Rattle.mlp_encode.specs.Coding.{Sent, nothing, column}
 use Rattle.mlp_encode.specs.Blocks.{Force, channel_in, sent_in, size_with, rows_with, steps_with, params_of, bypass_in, frame_code, codes_in}
@@ -36,7 +37,7 @@ use Rattle.mlp_encode.specs.Lawful.{IsSendable, rows_size, steps_size, bypass_si
 use Rattle.mlp_encode.proofs.SentBlocks.{after, coding, coding_is, channels, to_last, rows_are}
 use Rattle.mlp_encode.proofs.SentCosts.{channel_cost}
 use Rattle.mlp_encode.proofs.Sums.{sums, sums_most, sums_add, sums_swap, series_long}
-use Rattle.mlp_encode.proofs.BitCounts.{none_long, some_long, times_most, each_long, codes_long}
+use Rattle.mlp_encode.proofs.BitCounts.{times_most, each_long, codes_long}
 use Rattle.mlp_encode.proofs.RowLengths.{rows_most, bypass_few}
 
 -- ---- parameters
@@ -78,13 +79,13 @@ steps_any : (m : ℕ) (xs : List ℕ) → length (steps_text m xs) ≤ 1 + m * 4
 steps_any m xs = pick (list_any (nat_lt 0) xs)
   where
     pick : (t : Bool) → length ((group true (listed m (number_of 4))).spelling (if t then Some (record { items = xs }) else None)) ≤ 1 + m * 4
-    pick true = let e = some_long (listed m (number_of 4)) (record { items = xs }) in omega (arith, e, numbers_most m xs)
-    pick false = let e = none_long (listed m (number_of 4)) in omega (arith, e)
+    pick true = let e = some_length (listed m (number_of 4)) (record { items = xs }) in omega (arith, e, numbers_most m xs)
+    pick false = let e = none_length (listed m (number_of 4)) in omega (arith, e)
 
 steps_most : (mix : Mix) (j q m : ℕ) → m ≡ last_channel j + 1 → length (steps_text m (steps_of mix q j)) ≤ steps_size mix j
 steps_most Split j q m e = omega (arith, e, steps_any m (steps_of Split q j))
 steps_most Fold j q m e = omega (arith, e, steps_any m (steps_of Fold q j))
-steps_most Bypass zero q m e = let none = none_long (listed m (number_of 4)) in omega (arith, none)
+steps_most Bypass zero q m e = let none = none_length (listed m (number_of 4)) in omega (arith, none)
 steps_most Bypass (suc j) q m e = omega (arith, e, steps_any m (steps_of Bypass q (suc j)))
 steps_most Side j q m e = omega (arith, e, steps_any m (steps_of Side q j))
 
@@ -119,22 +120,22 @@ module _ (j : ℕ) (p : Profile) (restarts : Bool) (s : State) (pasts : List Pas
   size_most = pick (s.block_size == length frames)
     where
       pick : (t : Bool) → length ((group true (block_size_of s.unit_frames)).spelling (if t then None else Some (length frames))) ≤ 10
-      pick true = let e = none_long (block_size_of s.unit_frames) in omega (arith, e)
-      pick false = let e = some_long (block_size_of s.unit_frames) (length frames) in omega (arith, e, length-bits 9 (length frames))
+      pick true = let e = none_length (block_size_of s.unit_frames) in omega (arith, e)
+      pick false = let e = some_length (block_size_of s.unit_frames) (length frames) in omega (arith, e, length-bits 9 (length frames))
 
   rows_bits : length ((group true (rows s.format s.restart)).spelling (rows_with j p restarts)) ≤ rows_given restarts p.mix j
   rows_bits = pick restarts
     where
       pick : (t : Bool) → length ((group true (rows s.format s.restart)).spelling (rows_with j p t)) ≤ rows_given t p.mix j
       pick true = rows_most s.format s.restart p.mix j p.channels p.depth (record { kind = h.begun.kind; max_matrix = h.begun.max_matrix }) h.shape.shape h.top h.codable.which
-      pick false = let e = none_long (rows s.format s.restart) in omega (arith, e)
+      pick false = let e = none_length (rows s.format s.restart) in omega (arith, e)
 
   steps_bits : length ((group true (listed (s.restart.max + 1) (number_of 4))).spelling (steps_with j p restarts)) ≤ steps_given restarts p.mix j
   steps_bits = pick restarts
     where
       pick : (t : Bool) → length ((group true (listed (s.restart.max + 1) (number_of 4))).spelling (steps_with j p t)) ≤ steps_given t p.mix j
       pick true = steps_most p.mix j (low_zeros p.depth) (s.restart.max + 1) (ap (λ (m : ℕ). m + 1) h.begun.max)
-      pick false = let e = none_long (listed (s.restart.max + 1) (number_of 4)) in omega (arith, e)
+      pick false = let e = none_length (listed (s.restart.max + 1) (number_of 4)) in omega (arith, e)
 
   channels_bits : length ((each (λ c. group true (channel 0xFF c)) (drop s.restart.min s.channels.items)).spelling (map (λ x. x.given) (sent_in j p restarts before frames))) ≡ sums parameters from count
   channels_bits =
@@ -151,14 +152,14 @@ module _ (j : ℕ) (p : Profile) (restarts : Bool) (s : State) (pasts : List Pas
       let c = (group true (listed (s.restart.max_matrix + 1) output_shift)).spelling None in
       let d = (group true (listed (s.restart.max + 1) (number_of 4))).spelling (steps_with j p restarts) in
       let e = (each (λ c. group true (channel 0xFF c)) (drop s.restart.min s.channels.items)).spelling (map (λ x. x.given) (sent_in j p restarts before frames)) in
-      omega (arith, five_long a b c d e, size_most, rows_bits, none_long (listed (s.restart.max_matrix + 1) output_shift), steps_bits, channels_bits)
+      omega (arith, five_long a b c d e, size_most, rows_bits, none_length (listed (s.restart.max_matrix + 1) output_shift), steps_bits, channels_bits)
 
   pub params_bits : length ((params s).spelling written) ≤ 12 + rows_given restarts p.mix j + steps_given restarts p.mix j + sums parameters from count
   unfolding params part
   params_bits =
       let f : ℕ → List Bool = λ p. (group (bit p 0) (number_of 8)).spelling None ++ (groups s None p).spelling written in
       let same = ap (λ (p : ℕ). length (f p)) h.begun.presence in
-      omega (arith, same, none_long (number_of 8), groups_bits, length-append ((group true (number_of 8)).spelling None) ((groups s None 0xFF).spelling written))
+      omega (arith, same, none_length (number_of 8), groups_bits, length-append ((group true (number_of 8)).spelling None) ((groups s None 0xFF).spelling written))
 
   -- ---- frames
 

@@ -20,9 +20,10 @@ use Rattle.mlp_fold.specs.declared.profile.Mix.TheVariants.{Split, Fold, Bypass,
 use Rattle.mlp_fold.specs.Profile.{IsShape}
 use Rattle.mlp_fold.specs.Mix.{channels_of}
 use Rattle.mlp_fold.specs.Rows.{row, on, left, right, rows_of}
+use Rattle.mlp_search.proofs.FilterLaws.{none_length, some_length}
 use Rattle.mlp_encode.specs.Numbers.{noise_kind}
 use Rattle.mlp_encode.specs.Lawful.{rows_size, bypass_size}
-use Rattle.mlp_encode.proofs.BitCounts.{flag_long, none_long, some_long, series_most, bypass_most}
+use Rattle.mlp_encode.proofs.BitCounts.{flag_long, series_most, bypass_most}
 use Rattle.mlp_encode.proofs.MixRows.{HasChannels, sources_in, sources_are}
 
 -- ---- a row
@@ -47,10 +48,10 @@ coefficients_most w zero cs = omega arith
 coefficients_most w (suc n) [] = omega arith
 coefficients_most w (suc n) (None ∷ cs) =
     let rest = coefficients_most w n cs in
-    omega (arith, rest, none_long (signed_of w), length-append ((group true (signed_of w)).spelling None) ((times n (group true (signed_of w))).spelling cs))
+    omega (arith, rest, none_length (signed_of w), length-append ((group true (signed_of w)).spelling None) ((times n (group true (signed_of w))).spelling cs))
 coefficients_most w (suc n) (Some c ∷ cs) =
     let rest = coefficients_most w n cs in
-    omega (arith, rest, some_long (signed_of w) c, signed_most w c, length-append ((group true (signed_of w)).spelling (Some c)) ((times n (group true (signed_of w))).spelling cs))
+    omega (arith, rest, some_length (signed_of w) c, signed_most w c, length-append ((group true (signed_of w)).spelling (Some c)) ((times n (group true (signed_of w))).spelling cs))
 
 abbrev noise_size : ℕ → ℕ
 noise_size kind = if kind == 0 then 0 else 4
@@ -109,7 +110,7 @@ some_most format j r ms h =
     let all = all_most j r h (length ms) ms in
     let texts = (times (length ms) (row_layout r)).spelling ms in
     let v : ArrayVec MatrixRow = record { items = ms } in
-    omega (arith, all, some_long (rows format r) v, length-bits 4 (length ms), length-append (bits 4 (length ms)) (texts ++ []), length-append texts [])
+    omega (arith, all, some_length (rows format r) v, length-bits 4 (length ms), length-append (bits 4 (length ms)) (texts ++ []), length-append texts [])
 
 -- ---- those of each mix
 
@@ -119,7 +120,7 @@ module _ (format : Kind) (r : Restart) where
   rows_text ms = (group true (rows format r)).spelling (if not (length ms == 0) then Some (record { items = ms }) else None)
 
   pub rows_most : (mix : Mix) (j channels depth : ℕ) → HasChannels j r → IsShape mix channels depth → channels_of j ≤ channels → j ≤ 2 → length (rows_text (rows_of mix j channels)) ≤ rows_size mix j
-  rows_most Split j channels depth h shape top le = let e = none_long (rows format r) in omega (arith, e)
+  rows_most Split j channels depth h shape top le = let e = none_length (rows format r) in omega (arith, e)
   rows_most Fold zero channels depth h shape top le = let e = some_most format 0 r (rows_of Fold 0 channels) h in omega (arith, e)
   rows_most Fold (suc zero) channels depth h shape top le = pick (channels == 6)
     where
@@ -134,7 +135,7 @@ module _ (format : Kind) (r : Restart) where
           omega (arith, e)
   rows_most Fold (suc (suc zero)) channels depth h shape top le = let e = some_most format 2 r (rows_of Fold 2 channels) h in omega (arith, e)
   rows_most Fold (suc (suc (suc j))) channels depth h shape top le = absurd (omega (arith, le))
-  rows_most Bypass zero channels depth h shape top le = let e = none_long (rows format r) in omega (arith, e)
+  rows_most Bypass zero channels depth h shape top le = let e = none_length (rows format r) in omega (arith, e)
   rows_most Bypass (suc zero) channels depth h shape top le = let e = some_most format 1 r (rows_of Bypass 1 channels) h in omega (arith, e)
   rows_most Bypass (suc (suc j)) channels depth h shape top le = absurd (omega (arith, shape.0, top))
   rows_most Side zero channels depth h shape top le = let e = some_most format 0 r (rows_of Side 0 channels) h in omega (arith, e)

@@ -25,7 +25,7 @@ use Rattle.mlp_encode.specs.Unit.{body_by, segments_in, segments_bytes, bytes_in
 use Rattle.mlp_encode.specs.Encoding.{IsBody, IsMade, IsEncoding, going_of}
 use Rattle.mlp_encode.specs.declared.progress.Progress.{Progress}
 use Rattle.mlp_encode.proofs.SyncAllowed.{Passes, passes, substreams_few}
-use Rattle.mlp_encode.proofs.UnitAllowed.{major_at, writable}
+use Rattle.mlp_encode.proofs.UnitAllowed.{major_at, writable, entries_count}
 use Rattle.mlp_encode.proofs.UnitLengths.{segments_fit}
 
 -- ---- the size of a unit
@@ -34,11 +34,7 @@ entries_size : (sync : Bool) (start : ℕ) (bs : List (List ℕ)) → directory_
 entries_size sync start [] = refl
 entries_size sync start (b ∷ bs) = let rest = entries_size sync (start + length b / 2) bs in omega (arith, rest)
 
-entries_long : (sync : Bool) (start : ℕ) (bs : List (List ℕ)) → length (entries_from sync start bs) ≡ length bs
-entries_long sync start [] = refl
-entries_long sync start (b ∷ bs) = let rest = entries_long sync (start + length b / 2) bs in omega (arith, rest)
-
-sync_size : (p : Profile) (sync : Bool) → major_size (major_at p sync) ≤ 28
+pub sync_size : (p : Profile) (sync : Bool) → major_size (major_at p sync) ≤ 28
 sync_size p true = omega arith
 sync_size p false = omega arith
 
@@ -51,7 +47,7 @@ is_body p sync bs h whole =
     let few = substreams_few p.channels in
     let head = sync_size p sync in
     let size = entries_size sync 0 bs in
-    let count = entries_long sync 0 bs in
+    let count = entries_count sync 0 bs in
     record {
       writable = writable p sync bs h whole.count whole.words (omega (arith, whole.most, most));
       plain = size;

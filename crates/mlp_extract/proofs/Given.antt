@@ -1,6 +1,6 @@
 -- A unit that a decoder gave has the segments of its presentation.
 use Rattle.std.proofs.Common.{◌≡◌, ℕ, zero, suc, ◌*◌, ◌<◌, not, Bool, List, take, Ok, Err, Option, Some, None, inl, inr, refl, sym, ap, subst, ◌∙◌, arith, ℤ}
-use Rattle.std.specs.Prelude.{IfSome, min}
+use Rattle.std.specs.Prelude.{min}
 use Rattle.std.proofs.lemmas.Bool.{cases_lt}
 use Rattle.std.proofs.lemmas.List.{length-take}
 use Rattle.mlp_syntax.specs.declared.fault.Field.TheVariants as rule
@@ -10,7 +10,6 @@ use Rattle.mlp_bits.specs.Bits.{bits_of}
 use Rattle.mlp_layout.specs.Allowed.{Allowed}
 use Rattle.mlp_layout.specs.Layout.{tested}
 use Rattle.mlp_layout.proofs.LayoutLaws.{tested_is, is_found}
-use Rattle.mlp_major.specs.MajorSync.{IsUsable}
 use Rattle.mlp_unit.specs.AccessUnit.{AccessUnit, access_unit, in_force, substreams_of}
 use Rattle.mlp_unit.specs.Shape.{unit_with}
 use Rattle.mlp_unit.specs.Written.{FirstUsable}
@@ -21,14 +20,10 @@ use Rattle.mlp_outline.proofs.NextParts.{next_shut}
 use Rattle.mlp_contents.specs.Units.{Left, whole, after}
 use Rattle.mlp_present.specs.Parts.{Next, outer_read}
 use Rattle.mlp_present.specs.Decoding.{Held, after_unit, unless_refused, GivesUnit, KeepsRefusal}
+use Rattle.mlp_sessions.proofs.Rates.{in_force_usable}
 use Rattle.mlp_extract.specs.Extractor.{HoldsPresentation, IsExtracting}
 
 -- ---- the first major sync
-
-usable_on : (first major : Option MajorSync) → FirstUsable first → IfSome major IsUsable → FirstUsable (in_force first major)
-usable_on None None usable own = tt
-usable_on None (Some m) usable own = own
-usable_on (Some f) major usable own = usable
 
 told_on : (k : ℕ) (first major : Option MajorSync) → k < substreams_of first → k < substreams_of (in_force first major)
 told_on k None major lt = absurd (omega (arith, lt))
@@ -109,7 +104,7 @@ module _ (k : ℕ) (held new : Held) (bytes : List ℕ) (size : ℕ) (frames : L
       let behind : IsExtracting k (after_unit held g.unit) = record {
         k_is = x.k_is;
         most = x.most;
-        usable = subst FirstUsable (sym sync_is) (usable_on first major x.usable g.has_outer.usable);
+        usable = subst FirstUsable (sym sync_is) (in_force_usable first major x.usable g.has_outer.usable);
         begins = λ e. absurd (omega (arith, e));
         told = λ some. subst (λ (s : Option MajorSync). k < substreams_of s) (sym sync_is) told;
       } in

@@ -1,7 +1,7 @@
 -- An extraction, unit by unit: for the presentations that it keeps the same stands in its units as in those of the stream.
 use Rattle.std.proofs.Common.{◌≡◌, ℕ, ◌+◌, ◌≤◌, ◌<◌, cond, not, Bool, List, [], ◌∷◌, ◌++◌, length, drop, Option, Some, None, refl, sym, ap, subst, subst₂, ◌∙◌, arith}
 use Rattle.std.proofs.lemmas.List.{take_at, drop_at, length-append}
-use Rattle.std.specs.Prelude.{is_some, option_map, IsTrue}
+use Rattle.std.specs.Prelude.{option_map, IsTrue}
 use Rattle.mlp_syntax.specs.declared.major.MajorSync.{MajorSync}
 use Rattle.mlp_syntax.specs.declared.segment.Segment.{Segment}
 use Rattle.mlp_layout.specs.Layout.{Found, tested}
@@ -16,7 +16,7 @@ use Rattle.mlp_unit.specs.AccessUnit.{AccessUnit, access_unit, in_force, substre
 use Rattle.mlp_unit.specs.Extracted.{extracted}
 use Rattle.mlp_unit.specs.Laws.{FewerMeets}
 use Rattle.mlp_unit.specs.Written.{FirstUsable, unit_text}
-use Rattle.mlp_unit.proofs.Fewer.{fewer_meets}
+use Rattle.mlp_unit.proofs.Fewer.{fewer_meets, force_smaller, some_smaller}
 use Rattle.mlp_unit.proofs.Reread.{parts_of}
 use Rattle.mlp_unit.proofs.UnitLaws.{access_unit_is}
 use Rattle.mlp_unit.proofs.UnitRules.{fits_text}
@@ -48,14 +48,6 @@ place_fewer k None (Some m) = refl
 place_fewer k (Some f) None = refl
 place_fewer k (Some f) (Some m) = refl
 
-force_fewer : (k : ℕ) (first major : Option MajorSync) → in_force (option_map (smaller k) first) (option_map (smaller k) major) ≡ option_map (smaller k) (in_force first major)
-force_fewer k None major = refl
-force_fewer k (Some f) major = refl
-
-there_fewer : (k : ℕ) (major : Option MajorSync) → is_some (option_map (smaller k) major) ≡ is_some major
-there_fewer k None = refl
-there_fewer k (Some m) = refl
-
 module _ (k j : ℕ) (l : Left) (u : Unit_of) where
   place_kept : place_of (fewer_left k l) (extracted k u.outer) ≡ place_of l u.outer
   place_kept = place_fewer k l.sync u.outer.major
@@ -73,8 +65,8 @@ module _ (k j : ℕ) (l : Left) (u : Unit_of) where
   pub left_kept : after j (fewer_left k l) (extracted_unit k u) ≡ fewer_left k (after j l u)
   unfolding after
   left_kept =
-      let there = there_fewer k u.outer.major in
-      let force = force_fewer k l.sync u.outer.major in
+      let there = some_smaller k u.outer.major in
+      let force = force_smaller k l.sync u.outer.major in
       λ i. record {
         sync = force i;
         ended = (after j l u).ended;

@@ -1,20 +1,19 @@
 -- The units of an extraction have the timings of those of the stream, and are no longer.
-use Rattle.std.proofs.Common.{◌≡◌, ◌≢◌, ℕ, zero, suc, ◌+◌, ◌*◌, ◌≤◌, ◌<◌, Bool, List, [], ◌∷◌, length, take, Option, Some, None, refl, sym, ap, subst, subst₂, ◌∙◌, arith}
+use Rattle.std.proofs.Common.{◌≡◌, ◌≢◌, ℕ, zero, suc, ◌+◌, ◌*◌, ◌≤◌, ◌<◌, Bool, List, [], ◌∷◌, length, Option, Some, None, refl, sym, ap, subst, subst₂, ◌∙◌, arith}
 use Rattle.std.proofs.lemmas.List.{length-take, length-map}
 use Rattle.std.specs.Prelude.{map, option_map}
 use Rattle.mlp_syntax.specs.declared.major.MajorSync.{MajorSync}
-use Rattle.mlp_syntax.specs.declared.unit.DirEntry.{DirEntry}
 use Rattle.mlp_bits.specs.Bits.{bits_of}
 use Rattle.mlp_layout.specs.Layout.{Found, tested}
 use Rattle.mlp_layout.specs.Allowed.{Allowed}
 use Rattle.mlp_layout.specs.Streams.{left_after, Begins, Stream}
 use Rattle.mlp_major.specs.MajorSync.{smaller, rate_in_hertz}
-use Rattle.mlp_unit.specs.Directory.{directory_size}
-use Rattle.mlp_unit.specs.AccessUnit.{AccessUnit, access_unit, substreams_of, major_size, stream_kind, stream_rate}
+use Rattle.mlp_unit.specs.AccessUnit.{AccessUnit, access_unit, substreams_of, stream_kind, stream_rate}
 use Rattle.mlp_unit.specs.Extracted.{extracted}
 use Rattle.mlp_unit.specs.Shape.{end_at}
 use Rattle.mlp_unit.specs.Written.{FirstUsable}
 use Rattle.mlp_unit.proofs.Reread.{parts_of}
+use Rattle.mlp_unit.proofs.Fewer.{size_fewer, size_smaller}
 use Rattle.mlp_fifo.specs.declared.pace.Pace.{Pace}
 use Rattle.mlp_fifo.specs.Pace.{pace_of}
 use Rattle.mlp_fifo.specs.Timed.{IsShorter, IsTimed, unit_at}
@@ -36,19 +35,10 @@ use Rattle.mlp_extracted.proofs.ExLaw.{told}
 abbrev IsNoLonger : ℕ → AccessUnit → Type 0
 IsNoLonger k o = (extracted k o).head.words ≤ o.head.words
 
-major_same : (k : ℕ) (o : Option MajorSync) → major_size (option_map (smaller k) o) ≡ major_size o
-major_same k None = refl
-major_same k (Some m) = refl
-
-entries_shorter : (n : ℕ) (es : List DirEntry) → directory_size (take n es) ≤ directory_size es
-entries_shorter zero es = omega arith
-entries_shorter (suc n) [] = omega arith
-entries_shorter (suc n) (e ∷ es) = omega (arith, entries_shorter n es)
-
 no_longer : (k : ℕ) (first : Option MajorSync) (o : AccessUnit) → FirstUsable first → Allowed (access_unit first) o → k < length o.entries → IsNoLonger k o
 no_longer k first o usable a lt =
     let size = (parts_of first o (λ none. usable) a.fits a.meets).size in
-    omega (arith, size, major_same k o.major, entries_shorter (k + 1) o.entries, length-take (2 * end_at o.entries k) o.body)
+    omega (arith, size, size_smaller k o.major, size_fewer (k + 1) o.entries, length-take (2 * end_at o.entries k) o.body)
 
 each_shorter : (k : ℕ) (us : List Unit_of) → EachOuter (IsNoLonger k) us → (i : ℕ) → i < length us → IsShorter (unit_at (map timed_unit (extracted_units k us)) i) (unit_at (map timed_unit us) i)
 each_shorter k [] each i lt = absurd (omega (arith, lt))

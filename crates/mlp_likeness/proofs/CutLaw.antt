@@ -13,12 +13,12 @@ use Rattle.mlp_unit.specs.AccessUnit.{in_force, substreams_of}
 use Rattle.mlp_channels.specs.Channels.{nothing_coded}
 use Rattle.mlp_contents.specs.Units.{Left, Unit_of, start, place_by, frames_out, after, whole}
 use Rattle.mlp_contents.proofs.FormatLaws.{whole_is, whole_bytes}
+use Rattle.mlp_contents.proofs.ChannelLists.{length-each}
 use Rattle.mlp_samples.specs.Samples.{frames_by_steps, samples}
 use Rattle.mlp_samples.proofs.Streams.{samples_are}
 use Rattle.mlp_cut.specs.Cut.{units_bytes, first_sync, HasSync}
 use Rattle.mlp_cut.proofs.CutLaws.{begins_split}
 use Rattle.mlp_likeness.specs.Cut.{frames_from, frames_by_unit, PlaysAlike}
-use Rattle.mlp_likeness.proofs.Restarting.{each_long}
 use Rattle.mlp_likeness.proofs.Likeness.{like_units}
 use Rattle.mlp_likeness.proofs.Anew.{unit_anew}
 use Rattle.mlp_likeness.proofs.OwnText.{texts, begins_alone, bytes_are}
@@ -62,7 +62,7 @@ pub record Knows (k : ℕ) (l : Left) (a : MajorSync) : Type 0 where
 
 knows_on : (k : ℕ) (l : Left) (a : MajorSync) (u : Unit_of) → Knows k l a → Knows k (after k l u) a
 unfolding after
-knows_on k l a u h = record { sync = ap (λ (s : Option MajorSync). in_force s u.outer.major) h.sync; long = each_long (place_by l.sync u.outer.major) l.substreams u.contents ∙ h.long }
+knows_on k l a u h = record { sync = ap (λ (s : Option MajorSync). in_force s u.outer.major) h.sync; long = length-each (place_by l.sync u.outer.major) l.substreams u.contents ∙ h.long }
 
 knows_behind : (k : ℕ) (l : Left) (a : MajorSync) (us : List Unit_of) → Knows k l a → Knows k (left_after (whole k) l us) a
 knows_behind k l a [] h = h
@@ -74,7 +74,7 @@ long_start (suc n) = ap suc (long_start n)
 
 knows_first : (k : ℕ) (a : MajorSync) (u : Unit_of) → u.outer.major ≡ Some a → Knows k (after k (start k) u) a
 unfolding after
-knows_first k a u e = record { sync = e; long = each_long (place_by None u.outer.major) (start k).substreams u.contents ∙ long_start (k + 1) }
+knows_first k a u e = record { sync = e; long = length-each (place_by None u.outer.major) (start k).substreams u.contents ∙ long_start (k + 1) }
 
 -- ---- the presentation is there
 

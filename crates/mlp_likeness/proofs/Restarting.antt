@@ -1,7 +1,7 @@
 -- Behind a restart nothing of what was in force before it is heard.
 use Rattle.std.proofs.Common.{◌≡◌, ℕ, zero, suc, ◌<◌, cond, Bool, true, false, List, [], ◌∷◌, ◌++◌, length, take, drop, map, Option, Some, None, refl, ap, ◌∙◌, arith}
 use Rattle.std.proofs.Math.Path.{fun_ext}
-use Rattle.std.specs.Prelude.{is_some, IsTrue, option_map, slice_index_or, ℤ}
+use Rattle.std.specs.Prelude.{is_some, IsTrue, slice_index_or, ℤ}
 use Rattle.std.specs.List.{range_with_len}
 use Rattle.mlp_syntax.specs.declared.restart.Restart.{Restart}
 use Rattle.mlp_syntax.specs.declared.segment.BlockHead.{BlockHead}
@@ -14,13 +14,14 @@ use Rattle.mlp_params.specs.declared.state.State.{State}
 use Rattle.mlp_predict.specs.Outputs.{outputs_from, past_from}
 use Rattle.mlp_substream.specs.declared.known.Place.{Place}
 use Rattle.mlp_substream.specs.declared.known.Known.{Known}
-use Rattle.mlp_substream.specs.Blocks.{restarted, given, after_head, force_after, first_context, Block}
+use Rattle.mlp_substream.specs.Blocks.{restarted, force_after, first_context, Block}
 use Rattle.mlp_substream.specs.Segment.{nested, segment, IsAllowed}
 use Rattle.mlp_substream.proofs.SegmentChanges.{blocks_in}
 use Rattle.mlp_substream.proofs.WritingParts.{block_parts}
 use Rattle.mlp_substream.proofs.WritingEnds.{has_tail, meets_tail, tail_blocks}
 use Rattle.mlp_substream.proofs.PlayableLaws.{head_due}
 use Rattle.mlp_channels.specs.Channels.{Coded, past_before, block_frames, channel_frames, outputs_in, coded_after, codes_channel}
+use Rattle.mlp_channels.proofs.HeadLaws.{after_head_fresh}
 use Rattle.mlp_contents.specs.Known.{first_restart}
 use Rattle.mlp_contents.specs.Frames.{is_coded_by, channel}
 use Rattle.mlp_contents.specs.Units.{coded_each}
@@ -54,21 +55,18 @@ restarted_same : (place : Place) (f g : Option State) (o : Option Restart) → i
 restarted_same place f g (Some r) e = refl
 restarted_same place f g None e = absurd cc
 
-head_same : (place : Place) (f g : Option State) (h : BlockHead) → is_some h.restart ≡ true → after_head place f h ≡ after_head place g h
-head_same place f g h e = ap (λ (x : Option State). option_map (given h.params) x) (restarted_same place f g h.restart e)
-
 none_first : (hs : List BlockHead) → is_some (first_restart []) ≡ true → false ≡ true
 none_first hs e = e
 
 pub force_same : (place : Place) (f g : Option State) (hs : List BlockHead) → Restarts hs → force_after place f hs ≡ force_after place g hs
 force_same place f g [] e = let no = none_first [] e in absurd cc
-force_same place f g (h ∷ hs) e = ap (λ (x : Option State). force_after place x hs) (head_same place f g h e)
+force_same place f g (h ∷ hs) e = ap (λ (x : Option State). force_after place x hs) (after_head_fresh place f g h e)
 
 frames_same : (place : Place) (f g : Option State) (c : ℕ) (hs : List BlockHead) (cs : List FrameCode) → Restarts hs → channel_frames place f c hs cs ≡ channel_frames place g c hs cs
 unfolding channel_frames
 frames_same place f g c [] cs e = refl
 frames_same place f g c (h ∷ hs) cs e =
-    ap (λ (x : Option State). block_frames x h c (take h.frames cs) ++ channel_frames place x c hs (drop h.frames cs)) (head_same place f g h e)
+    ap (λ (x : Option State). block_frames x h c (take h.frames cs) ++ channel_frames place x c hs (drop h.frames cs)) (after_head_fresh place f g h e)
 
 module _ (place : Place) (major : place.major ≡ true) where
   past_same : (x y : Coded) (c : ℕ) → past_before place x c ≡ past_before place y c
@@ -125,8 +123,3 @@ pub restarts_at : (ss : List Segment) (j : ℕ) (other : Segment) → AllRestart
 restarts_at [] j other e lt = absurd (omega arith)
 restarts_at (s ∷ ss) zero other e lt = e.0
 restarts_at (s ∷ ss) (suc j) other e lt = restarts_at ss j other e.1 (omega arith)
-
-pub each_long : (place : Place) (xs : List Coded) (ss : List Segment) → length (coded_each place xs ss) ≡ length xs
-each_long place [] ss = refl
-each_long place (x ∷ xs) [] = refl
-each_long place (x ∷ xs) (s ∷ ss) = ap suc (each_long place xs ss)

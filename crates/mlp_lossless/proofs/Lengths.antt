@@ -20,6 +20,7 @@ use Rattle.mlp_encode.specs.Unit.{SentUnit, restart_in, segments_from, segments_
 use Rattle.mlp_encode.proofs.SyncAllowed.{Passes, substreams_few}
 use Rattle.mlp_encode.proofs.UnitAllowed.{major_at, writable}
 use Rattle.mlp_encode.proofs.UnitLengths.{segments_fit, segments_single}
+use Rattle.mlp_encode.proofs.UnitMade.{sync_size}
 use Rattle.mlp_lossless.proofs.Parts.{bytes_count, words, words_long}
 use Rattle.mlp_lossless.proofs.Units.{AllCan, place, unit_is}
 
@@ -82,10 +83,6 @@ module _ (p : Profile) (n : ℕ) (checks : List ℕ) (coded : List CodedFrame) (
 entries_size : (sync : Bool) (start : ℕ) (bs : List (List ℕ)) → directory_size (entries_from sync start bs) ≡ 2 * length bs
 entries_size sync start [] = refl
 entries_size sync start (b ∷ bs) = let rest = entries_size sync (start + length b / 2) bs in omega (arith, rest)
-
-sync_size : (p : Profile) (sync : Bool) → major_size (major_at p sync) ≤ 28
-sync_size p true = omega arith
-sync_size p false = omega arith
 
 sync_even : (p : Profile) (sync : Bool) → major_size (major_at p sync) % 2 ≡ 0
 sync_even p true = omega arith

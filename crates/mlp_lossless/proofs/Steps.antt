@@ -1,5 +1,5 @@
 -- A unit that is sent is the next one of a decoder that follows, gives back its frames, and leaves what is followed on.
-use Rattle.std.proofs.Common.{◌≡◌, ℕ, zero, suc, ◌+◌, ◌-◌, ◌*◌, ◌/◌, ◌%◌, ◌^◌, ◌<◌, ◌≤◌, ℤ, Bool, true, false, List, [], ◌∷◌, ◌++◌, map, length, take, get_or, Option, Some, None, Ok, refl, sym, ap, ◌∙◌, subst, arith}
+use Rattle.std.proofs.Common.{◌≡◌, ℕ, suc, ◌+◌, ◌-◌, ◌*◌, ◌/◌, ◌%◌, ◌^◌, ◌<◌, ◌≤◌, ℤ, Bool, true, false, List, [], ◌∷◌, ◌++◌, map, length, take, get_or, Option, Some, None, Ok, refl, sym, ap, ◌∙◌, subst, arith}
 use Rattle.std.specs.Prelude.{All, is_some, IsTrue, not, ◌==◌, ◌||◌, if◌then◌else◌}
 use Rattle.std.specs.List.{list_any}
 use Rattle.std.proofs.Math.Seq.{take-append_seam}
@@ -31,6 +31,7 @@ use Rattle.mlp_output.specs.Output.{folded, dropped, check_of, placed_each}
 use Rattle.mlp_contents.specs.Frames.{channel, heard_in}
 use Rattle.mlp_contents.specs.Units.{Unit_of, frames_in_unit, coded_at, coded_each, portion, top_of, no_segment, heard_of, placed_by, frames_out, after, whole}
 use Rattle.mlp_contents.specs.Units.{Left as Decoded, place_of as decoder_place}
+use Rattle.mlp_contents.proofs.ChannelLists.{length-each}
 use Rattle.mlp_fifo.specs.LeftFifo.{LeftFifo}
 use Rattle.mlp_fifo.specs.Pace.{unit_of, single_most}
 use Rattle.mlp_fold.specs.declared.profile.Profile.{Profile}
@@ -42,6 +43,7 @@ use Rattle.mlp_encode.specs.Numbers.{has_sync, low_zeros}
 use Rattle.mlp_encode.specs.Sync.{sync_of}
 use Rattle.mlp_encode.specs.Left.{Going}
 use Rattle.mlp_encode.specs.Unit.{AreNext, filled, coded, terminator_of, output_timing, restart_in, SentUnit, unit_sent, place_of, segments_bytes, entry_at, entries_from, major_of, body_of, body_size, unit_bytes, check_behind, behind}
+use Rattle.mlp_samples.proofs.Leavings.{coded_each-at}
 use Rattle.mlp_lossless.specs.Following.{Follows}
 use Rattle.mlp_lossless.specs.Timings.{output_timings}
 use Rattle.mlp_lossless.specs.Chosen.{IsChosenSegment, IsChosen}
@@ -104,17 +106,6 @@ module _ (p : Profile) (n : ℕ) (checks : List ℕ) (cs : List CodedFrame) (t :
   none_ended last check final i (x ∷ xs) (s ∷ ss) [] e h = absurd h
   none_ended last check final i (x ∷ xs) (s ∷ ss) (f ∷ fs) e h =
       ap (λ (o : Option ℕ). is_some o || list_any (λ s. is_some s.terminator) ss) (h.0.stand.end ∙ e) ∙ none_ended last check final (suc i) xs ss fs e h.1
-
-each_count : (place : Place) (xs : List Coded) (ss : List Segment) → length (coded_each place xs ss) ≡ length xs
-each_count place [] ss = refl
-each_count place (x ∷ xs) [] = refl
-each_count place (x ∷ xs) (s ∷ ss) = ap suc (each_count place xs ss)
-
-each_at : (place : Place) (xs : List Coded) (ss : List Segment) (i : ℕ) → i < length xs → i < length ss → get_or (coded_each place xs ss) i nothing_coded ≡ coded_after place (get_or xs i nothing_coded) (get_or ss i no_segment)
-each_at place [] ss i a b = absurd (omega arith)
-each_at place (x ∷ xs) [] i a b = absurd (omega arith)
-each_at place (x ∷ xs) (s ∷ ss) zero a b = refl
-each_at place (x ∷ xs) (s ∷ ss) (suc i) a b = each_at place xs ss i (omega arith) (omega arith)
 
 after_force : (place : Place) (x : Coded) (s : Segment) → (coded_after place x s).force ≡ force_after place x.force s.blocks.items
 unfolding coded_after
@@ -334,7 +325,7 @@ module _ (j : ℕ) (e : Going) (d : Decoded) (frames : List (List ℤ)) (last : 
   coded_there : (i : ℕ) → i ≤ j → coded_at (coded_each (decoder_place d outer) d.substreams contents) i ≡ coded_after (place_of e) (get_or d.substreams i nothing_coded) (get_or contents i no_segment)
   coded_there i le =
       ap (λ (x : Place). coded_at (coded_each x d.substreams contents) i) place_is
-      ∙ each_at (place_of e) d.substreams contents i (omega (arith, h.count, le)) (omega (arith, contents_count, le))
+      ∙ coded_each-at (place_of e) d.substreams contents i (omega (arith, h.count, le)) (omega (arith, contents_count, le))
 
   check_is : last ≡ false → check_of (if is_some (major_of e) then 0 else d.check) (heard_of j d unit) ≡ check_behind e frames j
   check_is going =
@@ -351,7 +342,7 @@ module _ (j : ℕ) (e : Going) (d : Decoded) (frames : List (List ℤ)) (last : 
   follows_on fifo going = record {
     sync = same_sync ∙ sym (ap (λ (b : Bool). if b then None else Some (sync_of e.profile)) (ne_eqb (e.units + 1) 0 (λ z. absurd (omega (arith, z)))));
     going_on = none_ended e.profile e.units e.checks cs t j (folded d.check) sent.pasts 0 d.substreams contents sent.force (ap (λ (b : Bool). terminator_of e.profile (length frames) b) going) all_played.played;
-    count = each_count (decoder_place d outer) d.substreams contents ∙ h.count;
+    count = length-each (decoder_place d outer) d.substreams contents ∙ h.count;
     force = λ i le. ap (λ (x : Coded). x.force) (coded_there i le) ∙ after_force (place_of e) (get_or d.substreams i nothing_coded) (get_or contents i no_segment) ∙ (played_of i le).back.force ∙ sym (played_of i le).force;
     pasts = λ i c le from to. ap (λ (x : Coded). past_of_channel x.pasts c) (coded_there i le) ∙ (played_of i le).pasts c from to;
     check = check_is going ∙ sym (get_or-map-range_with_len (check_behind e frames) 0 (substreams_of e.profile.channels) j j 0 some (omega arith));

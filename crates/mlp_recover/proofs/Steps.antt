@@ -25,7 +25,7 @@ use Rattle.mlp_walk.proofs.WalkLaws.{taken_none, takes_one}
 use Rattle.mlp_contents.specs.Units.{Left, Unit_of, start, whole, after, frames_out}
 use Rattle.mlp_contents.proofs.FormatLaws.{whole_is, whole_bytes}
 use Rattle.mlp_samples.specs.Samples.{frames_by_steps, samples}
-use Rattle.mlp_samples.proofs.Streams.{samples_are}
+use Rattle.mlp_samples.proofs.Streams.{samples_are, in_force_some}
 use Rattle.mlp_present.specs.Parts.{Next}
 use Rattle.mlp_present.specs.Decoding.{Held, opened, unless_refused, next_unit, after_unit, GivesUnit, channels_by}
 use Rattle.mlp_present.specs.Laws.{HoldsUnits}
@@ -239,10 +239,6 @@ growing_none k bytes first held e lt = record {
   more = lt;
   going = λ some. absurd (some refl);
 }
-
-in_force_some : (o here : Option MajorSync) → is_some o ≡ true → in_force o here ≡ o
-in_force_some None here e = absurd cc
-in_force_some (Some m) here e = refl
 
 -- the first major sync stays
 sync_stays : (k : ℕ) (o : Option MajorSync) → is_some o ≡ true → (left : Left) (us : List Unit_of) → left.sync ≡ o → (left_after (whole k) left us).sync ≡ o

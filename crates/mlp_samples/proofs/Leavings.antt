@@ -44,7 +44,7 @@ heard_since-more place k before (v ∷ us) u =
     ∙ ap (λ (bs : List Unit_of). unit_heard place k before v ++ (heard_since place k (before ++ v ∷ []) us ++ unit_heard place k bs u)) (append_assoc before (v ∷ []) us)
     ∙ sym (append_assoc (unit_heard place k before v) (heard_since place k (before ++ v ∷ []) us) (unit_heard place k (before ++ v ∷ us) u))
 
-coded_each-at : (place : Place) (xs : List Coded) (ss : List Segment) (j : ℕ) → j < length xs → j < length ss
+pub coded_each-at : (place : Place) (xs : List Coded) (ss : List Segment) (j : ℕ) → j < length xs → j < length ss
     → get_or (coded_each place xs ss) j nothing_coded ≡ coded_after place (get_or xs j nothing_coded) (get_or ss j no_segment)
 coded_each-at place [] ss j a b = absurd (omega arith)
 coded_each-at place (x ∷ xs) [] j a b = absurd (omega arith)

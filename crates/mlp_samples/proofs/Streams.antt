@@ -72,7 +72,7 @@ record Along (k : ℕ) (sync : Option MajorSync) (since : List Unit_of) (left : 
   usable : FirstUsable sync
   interval : Interval (place_in sync) k since left
 
-in_force_some : (sync here : Option MajorSync) → is_some sync ≡ true → in_force sync here ≡ sync
+pub in_force_some : (sync here : Option MajorSync) → is_some sync ≡ true → in_force sync here ≡ sync
 in_force_some None here e = absurd cc
 in_force_some (Some m) here e = refl
 

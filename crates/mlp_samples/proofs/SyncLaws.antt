@@ -1,13 +1,14 @@
 -- What the outer part of a unit says of the stream's first major sync, and of the place of its segments.
-use Rattle.std.proofs.Common.{◌≡◌, ◌<◌, Bool, true, List, Option, Some, None, refl, arith}
+use Rattle.std.proofs.Common.{◌≡◌, Bool, true, List, Option, Some, None, refl, arith}
 use Rattle.std.specs.Prelude.{IfSome, is_some}
 use Rattle.mlp_syntax.specs.declared.major.MajorSync.{MajorSync}
 use Rattle.mlp_layout.specs.Layout.{Found}
 use Rattle.mlp_major.specs.MajorSync.{IsUsable, KeepsRules}
 use Rattle.mlp_major.proofs.SyncRules.{usable_of}
-use Rattle.mlp_unit.specs.AccessUnit.{AccessUnit, access_unit, in_force, substreams_of}
+use Rattle.mlp_unit.specs.AccessUnit.{AccessUnit, access_unit, in_force}
 use Rattle.mlp_unit.specs.Written.{FirstUsable}
 use Rattle.mlp_unit.proofs.Reread.{parts_of}
+use Rattle.mlp_unit.proofs.UnitRules.{sync_there}
 use Rattle.mlp_substream.specs.Blocks.{IsPlace}
 use Rattle.mlp_contents.proofs.Places.{place_is}
 use Rattle.mlp_samples.specs.Samples.{place_in}
@@ -31,11 +32,7 @@ unit_place sync usable = place_is (place_in sync) sync (if_usable sync usable) r
 
 -- ---- there is a first major sync, behind each unit
 
-some_substreams : (sync : Option MajorSync) → 0 < substreams_of sync → is_some sync ≡ true
-some_substreams None lt = absurd (omega arith)
-some_substreams (Some m) lt = refl
-
 pub unit_synced : (first : Option MajorSync) (all : List Bool) (u : AccessUnit) → FirstUsable first → Found (access_unit first) all 0 u → is_some (in_force first u.major) ≡ true
 unit_synced first all u usable found =
     let p = parts_of first u (λ none. usable) found.fits found.meets in
-    some_substreams (in_force first u.major) (omega (arith, p.asked.count, p.count.some))
+    sync_there (in_force first u.major) (omega (arith, p.asked.count, p.count.some))

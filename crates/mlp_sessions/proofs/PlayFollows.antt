@@ -100,7 +100,7 @@ none_played k bits = record { k_is = refl; units = refl; left = refl; channels =
 
 -- ---- the end
 
-none_there : (k : ℕ) → ((whole k).outer (start k)).read (bits_of []) 0 ≡ Err (broken rule.UnitHeader 0)
+pub none_there : (k : ℕ) → ((whole k).outer (start k)).read (bits_of []) 0 ≡ Err (broken rule.UnitHeader 0)
 unfolding tested
 none_there k = none_read None
 

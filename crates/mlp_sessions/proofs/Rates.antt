@@ -8,7 +8,7 @@ use Rattle.mlp_unit.specs.Written.{FirstUsable}
 use Rattle.mlp_contents.specs.Units.{Left, Unit_of, after}
 use Rattle.mlp_present.specs.Decoding.{Held, GivesUnit}
 
-in_force_usable : (first major : Option MajorSync) → FirstUsable first → IfSome major IsUsable → FirstUsable (in_force first major)
+pub in_force_usable : (first major : Option MajorSync) → FirstUsable first → IfSome major IsUsable → FirstUsable (in_force first major)
 in_force_usable (Some f) major usable own = usable
 in_force_usable None None usable own = tt
 in_force_usable None (Some m) usable own = own

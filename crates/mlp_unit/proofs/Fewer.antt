@@ -70,7 +70,7 @@ directory_fewer zero es fits = refl
 directory_fewer (suc n) [] fits = refl
 directory_fewer (suc n) (e ∷ es) fits = (fits.0, directory_fewer n es fits.1)
 
-size_fewer : (n : ℕ) (es : List DirEntry) → directory_size (take n es) ≤ directory_size es
+pub size_fewer : (n : ℕ) (es : List DirEntry) → directory_size (take n es) ≤ directory_size es
 size_fewer zero es = omega arith
 size_fewer (suc n) [] = omega arith
 size_fewer (suc n) (e ∷ es) = let later = size_fewer n es in omega (arith, later)
@@ -130,15 +130,15 @@ unlike_fewer n (e ∷ es) some fits unlike = by_extra e.extra refl
 
 -- ---- the smaller sync
 
-some_smaller : (k : ℕ) (o : Option MajorSync) → is_some (option_map (smaller k) o) ≡ is_some o
+pub some_smaller : (k : ℕ) (o : Option MajorSync) → is_some (option_map (smaller k) o) ≡ is_some o
 some_smaller k None = refl
 some_smaller k (Some m) = refl
 
-size_smaller : (k : ℕ) (o : Option MajorSync) → major_size (option_map (smaller k) o) ≡ major_size o
+pub size_smaller : (k : ℕ) (o : Option MajorSync) → major_size (option_map (smaller k) o) ≡ major_size o
 size_smaller k None = refl
 size_smaller k (Some m) = refl
 
-force_smaller : (k : ℕ) (first o : Option MajorSync) → in_force (option_map (smaller k) first) (option_map (smaller k) o) ≡ option_map (smaller k) (in_force first o)
+pub force_smaller : (k : ℕ) (first o : Option MajorSync) → in_force (option_map (smaller k) first) (option_map (smaller k) o) ≡ option_map (smaller k) (in_force first o)
 force_smaller k None o = refl
 force_smaller k (Some f) o = refl
 

@@ -63,7 +63,7 @@ unfolding present chosen seen made
 major_meets first None fits keeps = tt
 major_meets first (Some m) fits keeps = sync_meets first m fits keeps
 
-sync_there : (o : Option MajorSync) → 0 < substreams_of o → is_some o ≡ true
+pub sync_there : (o : Option MajorSync) → 0 < substreams_of o → is_some o ≡ true
 sync_there None some = absurd (omega arith)
 sync_there (Some m) some = refl
 

@@ -17,7 +17,7 @@ use Rattle.mlp_answers.specs.Failures.{failure_by, end_of}
 use Rattle.mlp_wave.specs.WaveFile.{wave_file, most_of_samples, stated_channels, stated_rate, PutFile}
 use Rattle.mlp_wave.specs.Saved.{Saves, fits, too_many, stops, Begun, Wrote, Saved}
 
-nothing_put : (before behind : Option (List ℕ)) → behind ≡ before → Appends before behind []
+pub nothing_put : (before behind : Option (List ℕ)) → behind ≡ before → Appends before behind []
 nothing_put None behind e = tt
 nothing_put (Some xs) behind e = subst (λ (o : Option (List ℕ)). Appends (Some xs) o []) (sym e) (sym (append-nil xs))
 
