@@ -191,7 +191,3 @@ module _ (k : ℕ) (bytes : List ℕ) (spans : List Span) (ps : List Piece) (are
 
   pub told_all : (i : ℕ) (a b : Option (List ℕ)) → length spans ≤ i → Appends a b (all_told k (take i ps)) → Appends a b (all_told k ps)
   told_all i a b ge all = subst (λ (qs : List Piece). Appends a b (all_told k qs)) (take_all i ps (omega (arith, count_is, ge))) all
-
-pub none_told : (a : Option (List ℕ)) → Appends a a []
-none_told None = tt
-none_told (Some xs) = sym (append-nil xs)

@@ -14,8 +14,8 @@ use Rattle.mlp_encode.specs.Left.{Left, going}
 use Rattle.mlp_encode.specs.Unit.{AreNext, joined}
 use Rattle.mlp_encode.specs.Sent.{sent}
 use Rattle.mlp_encode.proofs.SyncAllowed.{passes}
+use Rattle.mlp_encode.proofs.SentStarts.{mixed_there}
 use Rattle.mlp_lossless.specs.Streams.{all_frames, AreUnits, IsSent}
-use Rattle.mlp_lossless.proofs.Shapes.{mixed}
 use Rattle.mlp_gen.specs.Generator.{state_after, frame_at, unit_at, generated}
 use Rattle.mlp_gen.proofs.Samples.{frame_samples}
 
@@ -33,7 +33,7 @@ unit_some rate = pick (nat_le rate 48000) (nat_le rate 96000)
 
 pub unit_is : (p : Profile) (seed n : ℕ) (last : Bool) → checked p ≡ Ok tt → AreNext p (unit_at p seed n) last
 unit_is p seed n last is =
-    let m = mixed p (passes p is) in
+    let m = mixed_there p (passes p is) in
     record {
       some = omega (arith, unit_long p seed n, unit_some p.rate);
       most = omega (arith, unit_long p seed n);

@@ -1,9 +1,8 @@
 -- Behind a restart nothing of what was in force before it is heard.
-use Rattle.std.proofs.Common.{◌≡◌, ℕ, zero, suc, ◌<◌, cond, Bool, true, false, List, [], ◌∷◌, ◌++◌, length, take, drop, map, Option, Some, None, refl, ap, ◌∙◌, arith}
+use Rattle.std.proofs.Common.{◌≡◌, ℕ, zero, suc, ◌<◌, cond, Bool, true, false, List, [], ◌∷◌, ◌++◌, length, take, drop, map, Option, refl, ap, ◌∙◌, arith}
 use Rattle.std.proofs.Math.Path.{fun_ext}
 use Rattle.std.specs.Prelude.{is_some, IsTrue, slice_index_or, ℤ}
 use Rattle.std.specs.List.{range_with_len}
-use Rattle.mlp_syntax.specs.declared.restart.Restart.{Restart}
 use Rattle.mlp_syntax.specs.declared.segment.BlockHead.{BlockHead}
 use Rattle.mlp_syntax.specs.declared.segment.FrameCode.{FrameCode}
 use Rattle.mlp_syntax.specs.declared.segment.Segment.{Segment}
@@ -14,7 +13,7 @@ use Rattle.mlp_params.specs.declared.state.State.{State}
 use Rattle.mlp_predict.specs.Outputs.{outputs_from, past_from}
 use Rattle.mlp_substream.specs.declared.known.Place.{Place}
 use Rattle.mlp_substream.specs.declared.known.Known.{Known}
-use Rattle.mlp_substream.specs.Blocks.{restarted, force_after, first_context, Block}
+use Rattle.mlp_substream.specs.Blocks.{force_after, first_context, Block}
 use Rattle.mlp_substream.specs.Segment.{nested, segment, IsAllowed}
 use Rattle.mlp_substream.proofs.SegmentChanges.{blocks_in}
 use Rattle.mlp_substream.proofs.WritingParts.{block_parts}
@@ -50,10 +49,6 @@ restarts_first place known f checked s major a =
     first_has place known f s.blocks.items s.codes.items major (tail_blocks place known (first_context place f) checked s (has_tail place known f s checked a.fits) (meets_tail place known f s checked a.meets))
 
 -- ---- what is in force behind its blocks, and their frames
-
-restarted_same : (place : Place) (f g : Option State) (o : Option Restart) → is_some o ≡ true → restarted place f o ≡ restarted place g o
-restarted_same place f g (Some r) e = refl
-restarted_same place f g None e = absurd cc
 
 none_first : (hs : List BlockHead) → is_some (first_restart []) ≡ true → false ≡ true
 none_first hs e = e

@@ -33,6 +33,8 @@ use Rattle.mlp_encode.proofs.SentAllowed.{later_allowed, restart_allowed}
 use Rattle.mlp_encode.proofs.SegmentLaws.{sent_most}
 use Rattle.mlp_encode.proofs.FramesCoded.{coded_by}
 use Rattle.mlp_encode.proofs.Ends.{end_is, restart_lawful}
+use Rattle.mlp_encode.proofs.SentStarts.{mixed_there}
+use Rattle.mlp_encode.proofs.FramesFilled.{filled_samples, filled_count}
 use Rattle.mlp_lossless.specs.Streams.{AreUnits, all_frames}
 use Rattle.mlp_lossless.specs.Lossless.{GivesBack, ArrivesEarliest, ArrivesInTime, EachSent}
 use Rattle.mlp_lossless.specs.Chosen.{IsChosenStream}
@@ -42,7 +44,7 @@ use Rattle.mlp_lossless.proofs.Sends.{block_plain}
 use Rattle.mlp_lossless.proofs.Plain.{IsPlain, restart_plain}
 use Rattle.mlp_lossless.proofs.Units.{CanSegment, CanSend, AllCan, unit_is}
 use Rattle.mlp_lossless.proofs.Steps.{CanSendUnit}
-use Rattle.mlp_lossless.proofs.Shapes.{presentation, mixed, filled_samples, filled_count}
+use Rattle.mlp_lossless.proofs.Shapes.{presentation}
 use Rattle.mlp_lossless.proofs.Lengths.{IsShort, FitsUnit, is_short, fits_unit}
 use Rattle.mlp_lossless.proofs.Syncs.{two_at_most}
 use Rattle.mlp_lossless.proofs.Streams.{was_sent, AllCanSend}
@@ -278,15 +280,15 @@ restarts_are p n checks ok k lt = pick (has_sync n)
 
 frames_sent : (p : Profile) (frames : List (List ℤ)) (last : Bool) → checked p ≡ Ok tt → AreNext p frames last → AreCodedBy p (coded p (filled p frames))
 frames_sent p frames last ok next =
-    coded_by p (filled p frames) (mixed p (passes p ok)) (filled_samples p (passes p ok) frames last next) (filled_count p (passes p ok) frames last next)
+    coded_by p (filled p frames) (mixed_there p (passes p ok)) (filled_samples p frames last next) (filled_count p frames last next)
 
 module _ (e : Going) (frames : List (List ℤ)) (last : Bool) (h : IsKept e) (next : AreNext e.profile frames last) where
-  all_sent : SendsAll e.profile e.units e.checks (coded e.profile (filled e.profile frames)) (terminator_of e.profile (length frames) last) (mixed e.profile (passes e.profile h.profile))
+  all_sent : SendsAll e.profile e.units e.checks (coded e.profile (filled e.profile frames)) (terminator_of e.profile (length frames) last) (mixed_there e.profile (passes e.profile h.profile))
       (frames_sent e.profile frames last h.profile next) (end_is e.profile (length frames) last) 0 e.force e.pasts
   all_sent =
       let zero_is : (k : ℕ) → k ≡ 0 + k = λ k. omega arith in
       let shows = λ (k : ℕ) (lt : k < length e.force). presentation e.profile k (passes e.profile h.profile) (omega (arith, lt, h.count)) in
-      sends_all e.profile e.units e.checks (coded e.profile (filled e.profile frames)) (terminator_of e.profile (length frames) last) (mixed e.profile (passes e.profile h.profile))
+      sends_all e.profile e.units e.checks (coded e.profile (filled e.profile frames)) (terminator_of e.profile (length frames) last) (mixed_there e.profile (passes e.profile h.profile))
       (frames_sent e.profile frames last h.profile next) (end_is e.profile (length frames) last) 0 e.force e.pasts
       (three (substreams_of e.profile.channels) h.count (λ k lt. (presentation e.profile k (passes e.profile h.profile) lt).few))
       (λ k lt. subst (λ (m : ℕ). channels_of m ≤ e.profile.channels) (zero_is k) (shows k lt).fits)

@@ -48,8 +48,10 @@ use Rattle.mlp_lossless.specs.Following.{Follows}
 use Rattle.mlp_lossless.specs.Timings.{output_timings}
 use Rattle.mlp_lossless.specs.Chosen.{IsChosenSegment, IsChosen}
 use Rattle.mlp_encode.proofs.SyncAllowed.{Passes, passes}
+use Rattle.mlp_encode.proofs.SentStarts.{mixed_there}
+use Rattle.mlp_encode.proofs.FramesFilled.{filled_samples, filled_count}
 use Rattle.mlp_lossless.proofs.Syncs.{sync_kind, sync_frames}
-use Rattle.mlp_lossless.proofs.Shapes.{IsPresentation, presentation, mixed, filled_samples, filled_count, kept, front_kept, whole_unit}
+use Rattle.mlp_lossless.proofs.Shapes.{IsPresentation, presentation, kept, front_kept, whole_unit}
 use Rattle.mlp_lossless.proofs.Units.{AllCan, Alongside, AllPlayed, IsPlayed, played_chosen, Plays, plays, all_back, all_stand, played_at}
 use Rattle.mlp_lossless.proofs.Bodies.{HasBytes, has_bytes, all_bits}
 use Rattle.mlp_lossless.proofs.Parts.{bits_back, bytes_count}
@@ -174,7 +176,7 @@ module _ (j : ℕ) (e : Going) (d : Decoded) (frames : List (List ℤ)) (last : 
       subst (λ (m : ℕ). first_channel m ≤ c → c ≤ last_channel m → past_of_channel (get_or d.substreams k nothing_coded).pasts c ≡ past_of_channel e.pasts c) (sym z) (h.pasts k c (omega (arith, lt, h.count))))
 
   coded_full : length cs ≡ unit_of e.profile.rate
-  coded_full = length-map (filled e.profile frames) _ ∙ filled_count e.profile is frames last can.frames_are
+  coded_full = length-map (filled e.profile frames) _ ∙ filled_count e.profile frames last can.frames_are
 
   all_played : Plays e.profile e.units e.checks cs t j (folded d.check) 0 d.substreams e.pasts (unit_sent e frames last)
   unfolding unit_sent
@@ -284,11 +286,11 @@ module _ (j : ℕ) (e : Going) (d : Decoded) (frames : List (List ℤ)) (last : 
       let top : Segment = top_of j contents in
       let st : State = top_played.behind in
       let back = all_back e.profile e.units e.checks cs t j (folded d.check) sent.pasts 0 d.substreams contents sent.force all_played.played in
-      let codes : length top.codes.items ≡ length (filled e.profile frames) = top_played.stand.count ∙ sym (filled_count e.profile is frames last can.frames_are) in
+      let codes : length top.codes.items ≡ length (filled e.profile frames) = top_played.stand.count ∙ sym (filled_count e.profile frames last can.frames_are) in
       let first : List ℤ → List ℤ = λ x. take (channels_of j) (presented_of e.profile.mix (24 - e.profile.depth) e.profile.channels j x) in
       ap (λ (x : Place). heard_in x (channel x d.substreams contents) d.seed top (force_after x (coded_at d.substreams j).force top.blocks.items)) place_is
       ∙ ap (λ (f : Option State). heard_in (place_of e) (channel (place_of e) d.substreams contents) d.seed top f) top_played.back.force
-      ∙ heard_unit e.profile.mix e.profile.depth e.profile.channels j (mixed e.profile is) shows.fits shows.few (filled e.profile frames) (filled_samples e.profile is frames last can.frames_are)
+      ∙ heard_unit e.profile.mix e.profile.depth e.profile.channels j (mixed_there e.profile is) shows.fits shows.few (filled e.profile frames) (filled_samples e.profile frames last can.frames_are)
       (place_of e) d.substreams contents back h.count
       top st top_played.top top_played.plain.max_matrix top_played.bits codes d.seed
       ∙ ap (λ (o : Option ℕ). take (length (filled e.profile frames) - dropped e.profile.kind o) (map first (filled e.profile frames))) top_played.stand.end
@@ -299,7 +301,7 @@ module _ (j : ℕ) (e : Going) (d : Decoded) (frames : List (List ℤ)) (last : 
   frames_given =
       ap (λ (f : Option State). placed_by f (heard_of j d unit)) force_is
       ∙ ap (λ (fs : List (List ℤ)). placed_each top_played.behind fs) heard_is
-      ∙ all_placed e.profile.mix e.profile.depth e.profile.channels j (mixed e.profile is) shows.fits shows.few top_played.behind top_played.top frames can.frames_are.samples
+      ∙ all_placed e.profile.mix e.profile.depth e.profile.channels j (mixed_there e.profile is) shows.fits shows.few top_played.behind top_played.top frames can.frames_are.samples
 
   -- ---- what it leaves
 

@@ -6,7 +6,8 @@ use Rattle.mlp_fold.specs.Substreams.{substreams_of}
 use Rattle.mlp_fifo.specs.Pace.{unit_of}
 use Rattle.mlp_encode.specs.Unit.{AreNext, next_sent}
 use Rattle.mlp_encode.proofs.SyncAllowed.{passes}
-use Rattle.mlp_lossless.proofs.Shapes.{mixed, eight_at_most}
+use Rattle.mlp_encode.proofs.SentStarts.{mixed_there}
+use Rattle.mlp_lossless.proofs.Shapes.{eight_at_most}
 use Rattle.mlp_gen.specs.Player.{Played, unplayed, player_at, CanTake, Took}
 use Rattle.mlp_gen.proofs.Samples.{state_first}
 use Rattle.mlp_gen.proofs.UnitFrames.{rows_are, first_next}
@@ -26,7 +27,7 @@ loop-number-init c =
     }
 
 pub make_unit-state-requires-clause-profile : goal.make_unit-state-requires-clause-profile
-make_unit-state-requires-clause-profile c = mixed c.args.profile.now (passes c.args.profile.now c.requires.profile)
+make_unit-state-requires-clause-profile c = mixed_there c.args.profile.now (passes c.args.profile.now c.requires.profile)
 
 pub make_unit-state-requires-clause-channels : goal.make_unit-state-requires-clause-channels
 make_unit-state-requires-clause-channels c = eight_at_most c.args.profile.now (passes c.args.profile.now c.requires.profile)
