@@ -1,8 +1,7 @@
 -- What the session of `check` does with the next bytes.
-use Rattle.std.proofs.Common.{◌≡◌, ℕ, ◌+◌, ◌*◌, ◌<◌, ◌≤◌, ◌↔◌, ◌&&◌, not, Bool, true, false, IsTrue, List, [], length, take, Ok, Err, Option, Some, None, is_none, refl, sym, ap, subst, ◌∙◌, ℤ, Bor, arith}
+use Rattle.std.proofs.Common.{◌≡◌, ℕ, ◌+◌, ◌*◌, ◌<◌, ◌≤◌, ◌↔◌, not, Bool, true, false, IsTrue, List, [], length, take, Ok, Err, Option, Some, sym, ap, subst, ◌∙◌, ℤ, Bor, arith}
 use Rattle.std.specs.Prelude.{is_some}
-use Rattle.std.specs.Option.{option_map, option_copied}
-use Rattle.mlp_syntax.specs.declared.segment.Segment.{Segment}
+use Rattle.std.specs.Option.{option_copied}
 use Rattle.mlp_syntax.specs.declared.fault.Field.TheVariants as rule
 use Rattle.mlp_syntax.specs.declared.major.MajorSync.{MajorSync}
 use Rattle.mlp_syntax.specs.declared.unit.Outer.{Outer}
@@ -15,47 +14,29 @@ use Rattle.mlp_unit.specs.Written.{FirstUsable}
 use Rattle.mlp_unit.proofs.Reread.{parts_of}
 use Rattle.mlp_unit.proofs.UnitLaws.{access_unit_is}
 use Rattle.mlp_walk.specs.declared.refusal.Refusal.{Refusal as Declined}
-use Rattle.mlp_walk.specs.Next.{Taken, next_of}
+use Rattle.mlp_walk.specs.Next.{next_of}
 use Rattle.mlp_stream.specs.declared.refusal.Refusal.{Refusal}
 use Rattle.mlp_stream.specs.Moves.{Move, Waits, Takes, Refuses}
 use Rattle.mlp_answers.specs.Reading.{refusal_of}
-use Rattle.mlp_answers.proofs.ReadingLaws.{stepped, step_is}
+use Rattle.mlp_answers.proofs.ReadingLaws.{step_is}
 use Rattle.mlp_contents.specs.Units.{Unit_of, whole, frames_out}
 use Rattle.mlp_fifo.specs.Timed.{LeftChecker}
 use Rattle.mlp_present.specs.Parts.{Next}
-use Rattle.mlp_present.specs.Decoding.{Held, unless_refused, next_unit, after_unit, is_open_behind, waits, GivesUnit}
+use Rattle.mlp_present.specs.Decoding.{Held, next_unit, after_unit, is_open_behind, waits, GivesUnit}
+use Rattle.mlp_sessions.proofs.DecoderSteps.{stepped_at, refuses_by, takes_by, waiting}
 use Rattle.mlp_check.specs.Check.{CheckState, timed_after, one_if, after_checked, check_reader, check_step}
 
 -- ---- by what comes of the next unit, or came
 
-abbrev stepped_at : Option Declined → Bool → CheckState → Next → Move CheckState
-stepped_at refusal held s next = stepped (whole s.held.k) (Some s.held.k) is_open_behind check_reader (option_map refusal_of refusal) held s next
-
-err_next : Declined → Next
-err_next e = Err e
-
-err_is : (d e : Declined) → err_next d ≡ err_next e → d ≡ e
-unfolding err_next
-err_is d e h = cc
-
-refuses_by : (s : CheckState) (refusal : Option Declined) (next : Next) (e : Declined) → unless_refused refusal next ≡ Err e → stepped_at refusal false s next ≡ Refuses (refusal_of e)
-unfolding err_next
-refuses_by s None next e h = ap (stepped_at None false s) h
-refuses_by s (Some d) next e h = ap (λ (r : Declined). Refuses (refusal_of r)) (err_is d e h)
-
-takes_by : (s : CheckState) (refusal : Option Declined) (next : Next) (t : Taken AccessUnit (List Segment)) → unless_refused refusal next ≡ Ok t → stepped_at refusal false s next ≡ Takes t.size [] (after_checked s t.unit)
-takes_by s None next t h = ap (stepped_at None false s) h
-takes_by s (Some d) next t h = absurd cc
-
 -- at the end of the bytes nothing is waited for
-at_end : (s : CheckState) (bytes : List ℕ) → check_step s true bytes ≡ stepped_at s.held.refusal false s (next_of (whole s.held.k) (Some s.held.k) s.held.units s.held.left bytes)
+at_end : (s : CheckState) (bytes : List ℕ) → check_step s true bytes ≡ stepped_at s.held.k check_reader s s.held.refusal false (next_of (whole s.held.k) (Some s.held.k) s.held.units s.held.left bytes)
 at_end s bytes = step_is (whole s.held.k) (Some s.held.k) is_open_behind check_reader s true bytes
 
 pub check_refuses : (s : CheckState) (bytes : List ℕ) (e : Declined) → next_unit s.held bytes ≡ Err e → check_step s true bytes ≡ Refuses (refusal_of e)
-check_refuses s bytes e h = at_end s bytes ∙ refuses_by s s.held.refusal _ e h
+check_refuses s bytes e h = at_end s bytes ∙ refuses_by s.held.k check_reader s s.held.refusal _ e h
 
 pub check_takes : (s : CheckState) (bytes : List ℕ) (size : ℕ) (u : Unit_of) → next_unit s.held bytes ≡ Ok (record { size = size; unit = u }) → check_step s true bytes ≡ Takes size [] (after_checked s u)
-check_takes s bytes size u h = at_end s bytes ∙ takes_by s s.held.refusal _ (record { size = size; unit = u }) h
+check_takes s bytes size u h = at_end s bytes ∙ takes_by s.held.k check_reader s s.held.refusal _ (record { size = size; unit = u }) h
 
 -- ---- of a session of these parts
 
@@ -121,17 +102,11 @@ module _ (held : Held) (bytes : List ℕ) (size : ℕ) (rows : List (List ℤ)) 
 
 -- ---- it waits exactly where its decoder does
 
-waiting : (s : CheckState) (next : Next) (refusal : Option Declined) (b : Bool) → IsTrue (is_none refusal && b) ↔ (stepped_at refusal b s next ≡ Waits)
-waiting s next None true = (λ _. refl, λ _. refl)
-waiting s (Ok t) None false = (λ e. absurd cc, λ e. absurd cc)
-waiting s (Err r) None false = (λ e. absurd cc, λ e. absurd cc)
-waiting s next (Some e) b = (λ e. absurd cc, λ e. absurd cc)
-
 pub check_waits : (s : CheckState) (bytes : List ℕ) → IsTrue (waits s.held bytes) ↔ (check_step s false bytes ≡ Waits)
 check_waits s bytes =
     let next : Next = next_of (whole s.held.k) (Some s.held.k) s.held.units s.held.left bytes in
     subst (λ (m : Move CheckState). IsTrue (waits s.held bytes) ↔ (m ≡ Waits)) (sym (step_is (whole s.held.k) (Some s.held.k) is_open_behind check_reader s false bytes))
-    (waiting s next s.held.refusal (is_open_behind s.held.left bytes))
+    (waiting s.held.k check_reader s s.held.refusal (is_open_behind s.held.left bytes) next)
 
 pub one_most : (b : Bool) → one_if b ≤ 1
 one_most true = omega arith

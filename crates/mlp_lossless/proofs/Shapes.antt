@@ -62,7 +62,6 @@ eight_at_most p h = of_channels (λ c. c ≤ 8) (omega arith) (omega arith) (ome
 -- ---- frames that fill up
 
 module _ (p : Profile) (passes : Passes p) (frames : List (List ℤ)) (last : Bool) (h : AreNext p frames last) where
-
   -- the terminator tells how many frames were filled up
   word_drops : (more : ℕ) → more < 8192 → dropped Fba (Some (0x2000 + more)) ≡ more
   word_drops more lt =

@@ -1,49 +1,25 @@
 -- What the session of `decode-raw` does with the next bytes.
-use Rattle.std.proofs.Common.{◌≡◌, ℕ, ◌+◌, ◌↔◌, ◌&&◌, Bool, true, false, IsTrue, List, length, Result, Ok, Err, Option, Some, None, is_none, refl, sym, ap, subst, ◌∙◌, ℤ}
-use Rattle.std.specs.Option.{option_map}
-use Rattle.mlp_syntax.specs.declared.segment.Segment.{Segment}
-use Rattle.mlp_unit.specs.AccessUnit.{AccessUnit}
+use Rattle.std.proofs.Common.{◌≡◌, ℕ, ◌+◌, ◌↔◌, true, false, IsTrue, List, length, Result, Ok, Err, Some, sym, ap, subst, ◌∙◌, ℤ}
 use Rattle.mlp_walk.specs.declared.refusal.Refusal.{Refusal as Declined}
-use Rattle.mlp_walk.specs.Next.{Taken, next_of}
+use Rattle.mlp_walk.specs.Next.{next_of}
 use Rattle.mlp_stream.specs.declared.refusal.Refusal.{Refusal}
 use Rattle.mlp_stream.specs.Moves.{Move, Waits, Takes, Refuses, moved}
-use Rattle.mlp_answers.specs.Reading.{refusal_of, on_given}
-use Rattle.mlp_answers.proofs.ReadingLaws.{stepped, step_is}
+use Rattle.mlp_answers.specs.Reading.{refusal_of}
+use Rattle.mlp_answers.proofs.ReadingLaws.{step_is}
 use Rattle.mlp_contents.specs.Units.{Unit_of, whole, frames_out}
 use Rattle.mlp_present.specs.Parts.{Next}
-use Rattle.mlp_present.specs.Decoding.{Held, unless_refused, next_unit, after_unit, is_open_behind, waits, GivesUnit}
+use Rattle.mlp_present.specs.Decoding.{Held, next_unit, after_unit, is_open_behind, waits, GivesUnit}
 use Rattle.mlp_sessions.specs.Playing.{played, places, Player, after_played, with_session, given, decode_reader, decode_step}
+use Rattle.mlp_sessions.proofs.DecoderSteps.{given_move, stepped_at, refuses_by, takes_by, waiting}
 
 -- ---- by what comes of the next unit, or came
 
-abbrev stepped_at : Option Declined → Bool → Player → Next → Move Player
-stepped_at refusal held s next = stepped (whole s.held.k) (Some s.held.k) is_open_behind decode_reader (option_map refusal_of refusal) held s next
-
-abbrev given_move : Player → ℕ → Result (List ℕ × Player) Refusal → Move Player
-given_move s size x = on_given (whole s.held.k) (Some s.held.k) is_open_behind decode_reader size x
-
-err_next : Declined → Next
-err_next e = Err e
-
-err_is : (d e : Declined) → err_next d ≡ err_next e → d ≡ e
-unfolding err_next
-err_is d e h = cc
-
-refuses_by : (s : Player) (refusal : Option Declined) (next : Next) (e : Declined) → unless_refused refusal next ≡ Err e → stepped_at refusal false s next ≡ Refuses (refusal_of e)
-unfolding err_next
-refuses_by s None next e h = ap (stepped_at None false s) h
-refuses_by s (Some d) next e h = ap (λ (r : Declined). Refuses (refusal_of r)) (err_is d e h)
-
-takes_by : (s : Player) (refusal : Option Declined) (next : Next) (t : Taken AccessUnit (List Segment)) → unless_refused refusal next ≡ Ok t → stepped_at refusal false s next ≡ given_move s t.size (given s t)
-takes_by s None next t h = ap (stepped_at None false s) h
-takes_by s (Some d) next t h = absurd cc
-
 -- at the end of the bytes nothing is waited for
-at_end : (s : Player) (bytes : List ℕ) → decode_step s true bytes ≡ stepped_at s.held.refusal false s (next_of (whole s.held.k) (Some s.held.k) s.held.units s.held.left bytes)
+at_end : (s : Player) (bytes : List ℕ) → decode_step s true bytes ≡ stepped_at s.held.k decode_reader s s.held.refusal false (next_of (whole s.held.k) (Some s.held.k) s.held.units s.held.left bytes)
 at_end s bytes = step_is (whole s.held.k) (Some s.held.k) is_open_behind decode_reader s true bytes
 
 decode_refuses : (s : Player) (bytes : List ℕ) (e : Declined) → next_unit s.held bytes ≡ Err e → decode_step s true bytes ≡ Refuses (refusal_of e)
-decode_refuses s bytes e h = at_end s bytes ∙ refuses_by s s.held.refusal _ e h
+decode_refuses s bytes e h = at_end s bytes ∙ refuses_by s.held.k decode_reader s s.held.refusal _ e h
 
 -- ---- a unit that is given
 
@@ -73,13 +49,13 @@ decode_takes : (s : Player) (bytes out : List ℕ) (size : ℕ) (frames : List (
     → decode_step s true bytes ≡ Takes size out (record { held = new; bits = s.bits; frames = s.frames + length frames })
 decode_takes s bytes out size frames new g p =
     let i = is_played s bytes size frames new (Ok out) g p in
-    at_end s bytes ∙ takes_by s s.held.refusal _ _ i.next ∙ ap (given_move s size) i.given ∙ ap (Takes size out) i.player
+    at_end s bytes ∙ takes_by s.held.k decode_reader s s.held.refusal _ _ i.next ∙ ap (given_move s.held.k decode_reader s size) i.given ∙ ap (Takes size out) i.player
 
 decode_low : (s : Player) (bytes : List ℕ) (size : ℕ) (frames : List (List ℤ)) (new : Held) (r : Refusal) → GivesUnit s.held bytes size frames new → played s.bits (places new.channels) s.frames frames ≡ Err r
     → decode_step s true bytes ≡ Refuses r
 decode_low s bytes size frames new r g p =
     let i = is_played s bytes size frames new (Err r) g p in
-    at_end s bytes ∙ takes_by s s.held.refusal _ _ i.next ∙ ap (given_move s size) i.given
+    at_end s bytes ∙ takes_by s.held.k decode_reader s s.held.refusal _ _ i.next ∙ ap (given_move s.held.k decode_reader s size) i.given
 
 -- ---- of a session of these parts
 
@@ -108,18 +84,8 @@ decode_declined held bits before bytes d r h q s e =
 
 -- ---- it waits exactly where its decoder does
 
-waiting_given : (s : Player) (size : ℕ) (x : Result (List ℕ × Player) Refusal) → given_move s size x ≡ Waits → ⊥
-waiting_given s size (Ok x) e = cc
-waiting_given s size (Err r) e = cc
-
-waiting : (s : Player) (next : Next) (refusal : Option Declined) (b : Bool) → IsTrue (is_none refusal && b) ↔ (stepped_at refusal b s next ≡ Waits)
-waiting s next None true = (λ _. refl, λ _. refl)
-waiting s (Ok t) None false = (λ e. absurd cc, λ e. absurd (waiting_given s t.size (given s t) e))
-waiting s (Err r) None false = (λ e. absurd cc, λ e. absurd cc)
-waiting s next (Some e) b = (λ e. absurd cc, λ e. absurd cc)
-
 pub decode_waits : (s : Player) (bytes : List ℕ) → IsTrue (waits s.held bytes) ↔ (decode_step s false bytes ≡ Waits)
 decode_waits s bytes =
     let next : Next = next_of (whole s.held.k) (Some s.held.k) s.held.units s.held.left bytes in
     subst (λ (m : Move Player). IsTrue (waits s.held bytes) ↔ (m ≡ Waits)) (sym (step_is (whole s.held.k) (Some s.held.k) is_open_behind decode_reader s false bytes))
-    (waiting s next s.held.refusal (is_open_behind s.held.left bytes))
+    (waiting s.held.k decode_reader s s.held.refusal (is_open_behind s.held.left bytes) next)
