@@ -1,29 +1,17 @@
 -- Units stand in their own texts as they stand in a stream.
-use Rattle.std.proofs.Common.{◌≡◌, ℕ, zero, suc, ◌*◌, Bool, List, [], ◌∷◌, ◌++◌, length, refl, sym, ap, subst, ◌∙◌, arith, length-append}
+use Rattle.std.proofs.Common.{◌≡◌, ℕ, Bool, List, [], ◌∷◌, ◌++◌, length, refl, sym, ap, subst, ◌∙◌, arith, length-append}
 use Rattle.std.proofs.lemmas.List.{take_at, drop_at}
 use Rattle.std.proofs.lemmas.List.Concat.{flat_map-cons}
-use Rattle.mlp_bits.specs.Bits.{bits, bits_of, number}
-use Rattle.mlp_bits.proofs.BitLists.{bits_of-cons}
-use Rattle.mlp_bits.proofs.ReadBack.{bits-number}
+use Rattle.mlp_bits.specs.Bits.{bits_of}
 use Rattle.mlp_bits.proofs.Words.{bits_of-append}
 use Rattle.mlp_layout.specs.Layout.{tested}
 use Rattle.mlp_layout.specs.Streams.{IsNext, spelling_of, rest_of, Begins}
 use Rattle.mlp_unit.specs.Written.{unit_text}
 use Rattle.mlp_unit.proofs.UnitRules.{fits_text}
-use Rattle.mlp_substream.specs.Checks.{bytes_of}
 use Rattle.mlp_contents.specs.Units.{Left, Unit_of, after, whole}
 use Rattle.mlp_contents.proofs.FormatLaws.{whole_bytes}
 use Rattle.mlp_cut.specs.Cut.{unit_bytes, units_bytes}
-
--- so many bytes' bits are those of the bytes that they spell
-pub bits_again : (n : ℕ) (all : List Bool) → length all ≡ 8 * n → bits_of (bytes_of all) ≡ all
-unfolding bytes_of bits_of
-bits_again zero [] e = refl
-bits_again zero (b ∷ all) e = absurd (omega (arith, e))
-bits_again (suc n) (a ∷ b ∷ c ∷ d ∷ e ∷ f ∷ g ∷ h ∷ all) long =
-    let byte = a ∷ b ∷ c ∷ d ∷ e ∷ f ∷ g ∷ h ∷ [] in
-    bits_of-cons (number byte) (bytes_of all) ∙ ap (λ (t : List Bool). bits 8 (number byte) ++ t) (bits_again n all (omega arith)) ∙ ap (λ (t : List Bool). t ++ all) (bits-number byte)
-bits_again (suc n) all long = absurd (omega (arith, long))
+use Rattle.mlp_samples.proofs.WholeBytes.{bits_again}
 
 -- the texts of units, one after the other
 abbrev pub texts : List Unit_of → List Bool

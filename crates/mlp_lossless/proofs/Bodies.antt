@@ -6,8 +6,7 @@ use Rattle.mlp_syntax.specs.declared.major.MajorSync.{MajorSync}
 use Rattle.mlp_syntax.specs.declared.restart.Restart.{Restart}
 use Rattle.mlp_syntax.specs.declared.unit.DirEntry.{DirEntry}
 use Rattle.mlp_syntax.specs.declared.segment.Segment.{Segment}
-use Rattle.mlp_bits.specs.Bits.{number, bits_of}
-use Rattle.mlp_bits.proofs.Fields.{number-below}
+use Rattle.mlp_bits.specs.Bits.{bits_of}
 use Rattle.mlp_params.specs.declared.state.State.{State}
 use Rattle.mlp_predict.specs.Prediction.{Past}
 use Rattle.mlp_substream.specs.declared.known.Place.{Place}
@@ -22,7 +21,8 @@ use Rattle.mlp_fold.specs.declared.profile.Profile.{Profile}
 use Rattle.mlp_fold.specs.declared.coding.CodedFrame.{CodedFrame}
 use Rattle.mlp_encode.specs.Blocks.{SentSegment}
 use Rattle.mlp_encode.specs.Unit.{SentUnit, restart_in, segments_from, segments_bytes, entries_from, joined}
-use Rattle.mlp_lossless.proofs.Parts.{IsEven, bits_back, bytes_count, words, words_long, is_part}
+use Rattle.mlp_samples.proofs.WholeBytes.{bits_again, bytes_are}
+use Rattle.mlp_lossless.proofs.Parts.{IsEven, bytes_count, words, words_long, is_part}
 use Rattle.mlp_lossless.proofs.Units.{AllCan, place, unit_is}
 use Rattle.mlp_lossless.proofs.Found.{AllHaveBits}
 use Rattle.mlp_unit.proofs.BodyBits.{body_bits}
@@ -32,21 +32,6 @@ use Rattle.mlp_lossless.proofs.Outer.{checked_all}
 
 abbrev IsByte : ℕ → Type 0
 IsByte b = b < 256
-
-bytes_are : (n : ℕ) (text : List Bool) → length text ≡ 8 * n → AreBytes (bytes_of text)
-unfolding bytes_of
-bytes_are zero [] e = All-nil IsByte
-bytes_are zero (a ∷ text) e = absurd (omega (arith, e))
-bytes_are (suc n) (a ∷ b ∷ c ∷ d ∷ p ∷ q ∷ r ∷ s ∷ text) e =
-    All-cons IsByte (number (a ∷ b ∷ c ∷ d ∷ p ∷ q ∷ r ∷ s ∷ [])) (bytes_of text) (number-below (a ∷ b ∷ c ∷ d ∷ p ∷ q ∷ r ∷ s ∷ [])) (bytes_are n text (omega (arith, e)))
-bytes_are (suc n) [] e = absurd (omega (arith, e))
-bytes_are (suc n) (a ∷ []) e = absurd (omega (arith, e))
-bytes_are (suc n) (a ∷ b ∷ []) e = absurd (omega (arith, e))
-bytes_are (suc n) (a ∷ b ∷ c ∷ []) e = absurd (omega (arith, e))
-bytes_are (suc n) (a ∷ b ∷ c ∷ d ∷ []) e = absurd (omega (arith, e))
-bytes_are (suc n) (a ∷ b ∷ c ∷ d ∷ p ∷ []) e = absurd (omega (arith, e))
-bytes_are (suc n) (a ∷ b ∷ c ∷ d ∷ p ∷ q ∷ []) e = absurd (omega (arith, e))
-bytes_are (suc n) (a ∷ b ∷ c ∷ d ∷ p ∷ q ∷ r ∷ []) e = absurd (omega (arith, e))
 
 -- ---- the bytes of all segments
 
@@ -81,8 +66,8 @@ module _ (p : Profile) (n : ℕ) (checks : List ℕ) (coded : List CodedFrame) (
         count = ap suc rest.count;
         bytes_count = ap suc rest.bytes_count;
         even = All-cons IsEven (bytes_of text) (segments_bytes here fs later.segments) (omega (arith, some)) rest.even;
-        small = All-append IsByte (bytes_of text) (joined (segments_bytes here fs later.segments)) (bytes_are (2 * words here unknown f s.segment can.1.allowed.fits) text long) rest.small;
-        each = λ k lt. each_of f fs s.segment later.segments (bytes_of text) (segments_bytes here fs later.segments) k lt (bits_back (2 * words here unknown f s.segment can.1.allowed.fits) text long) rest.each;
+        small = All-append IsByte (bytes_of text) (joined (segments_bytes here fs later.segments)) (bytes_are text) rest.small;
+        each = λ k lt. each_of f fs s.segment later.segments (bytes_of text) (segments_bytes here fs later.segments) k lt (bits_again (2 * words here unknown f s.segment can.1.allowed.fits) text long) rest.each;
       })
     where
       each_of : (f : Option State) (fs : List (Option State)) (s : Segment) (ss : List Segment) (b : List ℕ) (bs : List (List ℕ)) (k : ℕ) → k < length (f ∷ fs)

@@ -6,9 +6,8 @@ use Rattle.std.proofs.lemmas.List.{length-append}
 use Rattle.std.proofs.lemmas.List.Elements.{All-head, All-tail}
 use Rattle.mlp_syntax.specs.declared.unit.DirEntry.{DirEntry}
 use Rattle.mlp_syntax.specs.declared.segment.Segment.{Segment}
-use Rattle.mlp_bits.specs.Bits.{bits, number, bits_of}
-use Rattle.mlp_bits.proofs.BitLists.{bits_of-cons, length-bits}
-use Rattle.mlp_bits.proofs.ReadBack.{bits-number}
+use Rattle.mlp_bits.specs.Bits.{bits}
+use Rattle.mlp_bits.proofs.BitLists.{length-bits}
 use Rattle.mlp_layout.specs.Tails.{judged_at_end, whole_text, checked_first, chosen_whole}
 use Rattle.mlp_params.specs.declared.state.State.{State}
 use Rattle.mlp_substream.specs.declared.known.Place.{Place}
@@ -21,23 +20,6 @@ use Rattle.mlp_unit.specs.Shape.{end_at, end_before}
 use Rattle.mlp_encode.specs.Unit.{entry_at, entries_from, joined}
 
 -- ---- bytes of whole bytes of bits
-
-pub bits_back : (n : ℕ) (text : List Bool) → length text ≡ 8 * n → bits_of (bytes_of text) ≡ text
-unfolding bytes_of bits_of
-bits_back zero [] e = refl
-bits_back zero (a ∷ text) e = absurd (omega (arith, e))
-bits_back (suc n) (a ∷ b ∷ c ∷ d ∷ p ∷ q ∷ r ∷ s ∷ text) e =
-    bits_of-cons (number (a ∷ b ∷ c ∷ d ∷ p ∷ q ∷ r ∷ s ∷ [])) (bytes_of text)
-    ∙ ap (λ (front : List Bool). front ++ bits_of (bytes_of text)) (bits-number (a ∷ b ∷ c ∷ d ∷ p ∷ q ∷ r ∷ s ∷ []))
-    ∙ ap (λ (rest : List Bool). a ∷ b ∷ c ∷ d ∷ p ∷ q ∷ r ∷ s ∷ rest) (bits_back n text (omega (arith, e)))
-bits_back (suc n) [] e = absurd (omega (arith, e))
-bits_back (suc n) (a ∷ []) e = absurd (omega (arith, e))
-bits_back (suc n) (a ∷ b ∷ []) e = absurd (omega (arith, e))
-bits_back (suc n) (a ∷ b ∷ c ∷ []) e = absurd (omega (arith, e))
-bits_back (suc n) (a ∷ b ∷ c ∷ d ∷ []) e = absurd (omega (arith, e))
-bits_back (suc n) (a ∷ b ∷ c ∷ d ∷ p ∷ []) e = absurd (omega (arith, e))
-bits_back (suc n) (a ∷ b ∷ c ∷ d ∷ p ∷ q ∷ []) e = absurd (omega (arith, e))
-bits_back (suc n) (a ∷ b ∷ c ∷ d ∷ p ∷ q ∷ r ∷ []) e = absurd (omega (arith, e))
 
 pub bytes_count : (n : ℕ) (text : List Bool) → length text ≡ 8 * n → length (bytes_of text) ≡ n
 unfolding bytes_of

@@ -44,6 +44,7 @@ use Rattle.mlp_encode.specs.Sync.{sync_of}
 use Rattle.mlp_encode.specs.Left.{Going}
 use Rattle.mlp_encode.specs.Unit.{AreNext, filled, coded, terminator_of, output_timing, restart_in, SentUnit, unit_sent, place_of, segments_bytes, entry_at, entries_from, major_of, body_of, body_size, unit_bytes, check_behind, behind}
 use Rattle.mlp_samples.proofs.Leavings.{coded_each-at}
+use Rattle.mlp_samples.proofs.WholeBytes.{bits_again}
 use Rattle.mlp_lossless.specs.Following.{Follows}
 use Rattle.mlp_lossless.specs.Timings.{output_timings}
 use Rattle.mlp_lossless.specs.Chosen.{IsChosenSegment, IsChosen}
@@ -54,7 +55,7 @@ use Rattle.mlp_lossless.proofs.Syncs.{sync_kind, sync_frames}
 use Rattle.mlp_lossless.proofs.Shapes.{IsPresentation, presentation, kept, front_kept, whole_unit}
 use Rattle.mlp_lossless.proofs.Units.{AllCan, Alongside, AllPlayed, IsPlayed, played_chosen, Plays, plays, all_back, all_stand, played_at}
 use Rattle.mlp_lossless.proofs.Bodies.{HasBytes, has_bytes, all_bits}
-use Rattle.mlp_lossless.proofs.Parts.{bits_back, bytes_count}
+use Rattle.mlp_lossless.proofs.Parts.{bytes_count}
 use Rattle.mlp_lossless.proofs.Outer.{outer_allowed}
 use Rattle.mlp_lossless.proofs.Found.{AllStand, found_all}
 use Rattle.mlp_lossless.proofs.Heard.{all_placed, checks_same}
@@ -202,7 +203,7 @@ module _ (j : ℕ) (e : Going) (d : Decoded) (frames : List (List ℤ)) (last : 
       let same = fits_text d.sync outer allowed.fits in
       let size = access_unit_size d.sync outer allowed.fits in
       let size_of : ℕ = 4 + (major_size outer.major + (directory_size outer.entries + length outer.body)) in
-      bits_back size_of (unit_text outer) (ap length (sym same) ∙ size ∙ omega arith) ∙ sym same
+      bits_again size_of (unit_text outer) (ap length (sym same) ∙ size ∙ omega arith) ∙ sym same
 
   pub sized : length (unit_bytes time (body_of e (unit_sent e frames last))) ≡ body_size (body_of e (unit_sent e frames last))
   sized =

@@ -7,9 +7,8 @@ use Rattle.std.proofs.lemmas.List.Elements.{All-nil, All-cons}
 use Rattle.mlp_syntax.specs.declared.major.MajorSync.{MajorSync}
 use Rattle.mlp_syntax.specs.declared.segment.Segment.{Segment}
 use Rattle.mlp_syntax.specs.declared.unit.DirEntry.{DirEntry}
-use Rattle.mlp_bits.specs.Bits.{bits_of, number}
+use Rattle.mlp_bits.specs.Bits.{bits_of}
 use Rattle.mlp_bits.proofs.BitLists.{length-bits_of}
-use Rattle.mlp_bits.proofs.Fields.{number-below}
 use Rattle.mlp_layout.specs.Allowed.{Allowed}
 use Rattle.mlp_layout.specs.Tails.{FoundWhole}
 use Rattle.mlp_layout.specs.Contents.{FoundIn, bits_in, segments, segment_first, no_segments}
@@ -22,28 +21,21 @@ use Rattle.mlp_unit.specs.Written.{FirstUsable, written_unit}
 use Rattle.mlp_unit.proofs.Fewer.{rewritten_meets}
 use Rattle.mlp_unit.proofs.Reread.{Parts, parts_of}
 use Rattle.mlp_substream.specs.declared.known.Place.{Place}
-use Rattle.mlp_substream.specs.Checks.{bytes_of}
 use Rattle.mlp_substream.specs.Segment.{segment, IsAllowed}
 use Rattle.mlp_substream.specs.Timings.{stamped}
 use Rattle.mlp_substream.proofs.StampedLaws.{stamped_allowed, stamped_long}
 use Rattle.mlp_channels.specs.Channels.{Coded}
 use Rattle.mlp_contents.specs.Known.{known}
 use Rattle.mlp_contents.specs.Units.{coded_at, is_checked, portion}
-use Rattle.mlp_likeness.proofs.OwnText.{bits_again}
 use Rattle.mlp_extracted.proofs.Portions.{rises, bits_at, bits_at_is}
 use Rattle.mlp_retime.specs.Retimed.{own_text, stamped_body}
+use Rattle.mlp_samples.proofs.WholeBytes.{bits_again, bytes_are}
 use Rattle.mlp_retimed.proofs.Segments.{spelled_alone}
 
 -- ---- bytes
 
 abbrev IsByte : ℕ → Type 0
 IsByte b = b < 256
-
-bytes_are : (bits : List Bool) → AreBytes (bytes_of bits)
-unfolding bytes_of
-bytes_are (a ∷ b ∷ c ∷ d ∷ e ∷ f ∷ g ∷ h ∷ bits) =
-    All-cons IsByte (number (a ∷ b ∷ c ∷ d ∷ e ∷ f ∷ g ∷ h ∷ [])) (bytes_of bits) (number-below (a ∷ b ∷ c ∷ d ∷ e ∷ f ∷ g ∷ h ∷ [])) (bytes_are bits)
-bytes_are bits = All-nil IsByte
 
 small_are : (bytes : List ℕ) → Small bytes → AreBytes bytes
 small_are [] h = All-nil IsByte

@@ -9,3 +9,4 @@ pub mod Steps
 pub mod Leavings
 pub mod FirstRestarts
 pub mod Streams
+pub mod WholeBytes
