@@ -11,6 +11,7 @@ mod tables;
 pub use codebook::{Codebook, NO_CODE};
 pub use laws::{law_books, law_symbols};
 pub use symbols::{
-    length, lengths_in, meanings, put_symbol_in, read_symbol, symbol, symbol_in, write_symbol,
+    length, lengths_in, meanings, put_code_in, put_symbol_in, read_symbol, symbol, symbol_in,
+    write_symbol,
 };
 pub use tables::{Book1, Book2, Book3};

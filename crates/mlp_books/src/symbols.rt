@@ -1,5 +1,6 @@
 //! Reading and writing symbols.
 ghost use Rattle.std.specs.Prelude.{◌≡◌, ℕ, ◌+◌, ◌*◌, ◌<◌, ◌≤◌, ◌^◌, ◌++◌, ◌↔◌, length, slice_index_or, Ok, IsErr, IfOk, OnOk, OnErr};
+ghost use Rattle.mlp_bits.specs.Bits.{bits};
 ghost use Rattle.mlp_bits.specs.Cursor.{Cursor};
 ghost use Rattle.mlp_layout.specs.Reading.{Gives};
 ghost use Rattle.mlp_layout.specs.Layout.{made, number_of};
@@ -128,6 +129,60 @@ pub fn put_symbol_in(book: u8, symbol: u8, w: &mut BitWriter) -> Result<(), Full
         1 => put_symbol::<Book1>(symbol, w),
         2 => put_symbol::<Book2>(symbol, w),
         _ => put_symbol::<Book3>(symbol, w),
+    }
+}
+
+/// Writes the code of a symbol and `width` more bits, which spell `low`, as one number.
+#[inline]
+fn put_joined<B: Codebook>(symbol: u32, low: u32, width: u32, w: &mut BitWriter) -> Result<(), Full>
+    requires symbol { symbol < B.SYMBOLS }
+    requires width { width ≤ 23 }
+    requires low { low < 2 ^ width }
+    ensures { Writes w.old w.new result (code_of B.codes symbol ++ bits width low) }
+{
+    let high = B::pattern(symbol) << width;
+    put_number(high + low, B::width(symbol) + width, w)
+}
+
+/// The code of a symbol, and behind it more bits than fit into one number with it.
+fn put_apart(book: u8, symbol: u8, low: u32, width: u32, w: &mut BitWriter) -> Result<(), Full>
+    requires book { book ≤ 3 }
+    requires symbol { (symbol_in book).Fits symbol }
+    requires width { width ≤ 32 }
+    requires low { low < 2 ^ width }
+    ensures { Writes w.old w.new result ((symbol_in book).spelling symbol ++ bits width low) }
+{
+    put_symbol_in(book, symbol, w)?;
+    put_number(low, width, w)
+}
+
+/// Writes the code of a symbol of the book with this number, 0 to 3, and `width` more bits, which spell `low`.
+///
+/// # Errors
+///
+/// `Full` exactly where the bits would pass 65,520.
+#[inline]
+pub fn put_code_in(
+    book: u8,
+    symbol: u8,
+    low: u32,
+    width: u32,
+    w: &mut BitWriter,
+) -> Result<(), Full>
+    requires book { book ≤ 3 }
+    requires symbol { (symbol_in book).Fits symbol }
+    requires width { width ≤ 32 }
+    requires low { low < 2 ^ width }
+    ensures { Writes w.old w.new result ((symbol_in book).spelling symbol ++ bits width low) }
+{
+    if width > 23 {
+        return put_apart(book, symbol, low, width, w);
+    }
+    match book {
+        0 => put_number(low, width, w),
+        1 => put_joined::<Book1>(u32::from(symbol), low, width, w),
+        2 => put_joined::<Book2>(u32::from(symbol), low, width, w),
+        _ => put_joined::<Book3>(u32::from(symbol), low, width, w),
     }
 }
 
