@@ -13,8 +13,8 @@ ghost use Rattle.mlp_residual.specs.Frames.{bypass_bits, code, codes_in, frame, 
 use crate::frames::{ChannelCode, Coding};
 use crate::in_force::coding_in_force;
 use mlp_bits::{BitWriter, Full};
-use mlp_books::put_symbol_in;
-use mlp_layout::{put_all, put_flag, put_number};
+use mlp_books::put_code_in;
+use mlp_layout::{put_all, put_flag};
 use mlp_params::State;
 use mlp_syntax::{Code, FrameCode};
 
@@ -48,8 +48,13 @@ fn put_code(channel: ChannelCode, value: Code, w: &mut BitWriter) -> Result<(), 
     requires fits { (code channel).Fits value }
     ensures { Writes w.old w.new result ((code channel).spelling value) }
 {
-    put_symbol_in(channel.book, value.symbol, w)?;
-    put_number(value.low, u32::from(channel.low), w)
+    put_code_in(
+        channel.book,
+        value.symbol,
+        value.low,
+        u32::from(channel.low),
+        w,
+    )
 }
 
 /// The codes of the channels.
