@@ -20,4 +20,4 @@ mod writing_heads;
 pub use heads::put_head;
 pub use known::{Ending, Known, Place};
 pub use segment::{read_segment, read_segment_into};
-pub use writing::write_segment;
+pub use writing::{write_segment, write_segment_with};

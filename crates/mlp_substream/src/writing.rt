@@ -82,9 +82,37 @@ fn push_segment(bytes: &[u8], checked: bool, out: &mut UnitBytes) -> Result<(), 
 }
 
 /// Appends the one spelling of a segment, with its check bytes where it has them. `state` is what is in force before
-/// it, and at Ok what is in force behind it.
+/// it, and at Ok what is in force behind it. What the writer had is forgotten.
 ///
 /// `UnitTooLong` comes exactly where the bytes would pass 8190; then `out` is unchanged, and `state` is of no use.
+pub fn write_segment_with(
+    writer: &mut BitWriter,
+    place: &Place,
+    state: &mut Option<State>,
+    segment: &Segment,
+    out: &mut UnitBytes,
+) -> Result<(), UnitTooLong>
+    requires place { IsPlace place.now }
+    requires state { ForceFits place.now state.old }
+    requires fits { (segment_layout place.now unknown state.old segment.now.checked).Fits segment.now }
+    requires meets { (segment_layout place.now unknown state.old segment.now.checked).Meets segment.now }
+    ensures too_long { IsErr result ↔ (65520 < length (bits_of out.old.items
+        ++ (segment_layout place.now unknown state.old segment.now.checked).spelling segment.now)) }
+    ensures kept { OnErr result (out.new ≡ out.old) }
+    ensures appended { OnOk result (bits_of out.new.items ≡ bits_of out.old.items
+        ++ (segment_layout place.now unknown state.old segment.now.checked).spelling segment.now) }
+    ensures force { OnOk result (state.new ≡ force_after place.now state.old segment.now.blocks.items) }
+    ensures state { OnOk result (ForceFits place.now state.new) }
+{
+    writer.clear();
+    let Ok(()) = write_fields(place, state, segment, writer) else {
+        return Err(UnitTooLong);
+    };
+    let bytes = writer.bytes();
+    push_segment(bytes, segment.checked, out)
+}
+
+/// The same, with a writer of its own.
 pub fn write_segment(
     place: &Place,
     state: &mut Option<State>,
@@ -103,10 +131,6 @@ pub fn write_segment(
     ensures force { OnOk result (state.new ≡ force_after place.now state.old segment.now.blocks.items) }
     ensures state { OnOk result (ForceFits place.now state.new) }
 {
-    let mut w = BitWriter::new();
-    let Ok(()) = write_fields(place, state, segment, &mut w) else {
-        return Err(UnitTooLong);
-    };
-    let bytes = w.bytes();
-    push_segment(bytes, segment.checked, out)
+    let mut writer = BitWriter::new();
+    write_segment_with(&mut writer, place, state, segment, out)
 }
