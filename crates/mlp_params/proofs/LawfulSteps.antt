@@ -6,7 +6,6 @@ use Rattle.std.proofs.Math.Dec.{eqb-suc-zero}
 use Rattle.std.proofs.lemmas.List.{length-append, length-take, length-drop}
 use Rattle.std.proofs.lemmas.List.Elements.{All-append, All-drop, All-take}
 use Rattle.arrayvec.specs.ArrayVec.{array_vec_len}
-use Rattle.mlp_syntax.specs.declared.fault.Field.TheVariants as rule
 use Rattle.mlp_syntax.specs.declared.params.Filter.{Filter}
 use Rattle.mlp_syntax.specs.declared.params.FilterState.{FilterState}
 use Rattle.mlp_syntax.specs.declared.params.ChannelParams.{ChannelParams}

@@ -3,7 +3,6 @@ use Rattle.std.proofs.Common.{◌≡◌, ◌≢◌, ℕ, ◌+◌, ◌<◌, ◌�
 use Rattle.std.proofs.lemmas.List.{append-nil}
 use Rattle.std.proofs.lemmas.Bool.{ne_eqb, eq-eqb, leb-true}
 use Rattle.std.specs.Prelude.{is_some}
-use Rattle.mlp_syntax.specs.declared.fault.Field.TheVariants as rule
 use Rattle.mlp_syntax.specs.declared.params.Filter.{Filter}
 use Rattle.mlp_bits.specs.Bits.{bits}
 use Rattle.mlp_layout.specs.Layout.{Layout, number_of, ruled, part, made}

@@ -18,7 +18,6 @@ use Rattle.mlp_params.specs.declared.state.ChannelState.{ChannelState}
 use Rattle.mlp_params.specs.declared.state.State.{State}
 use Rattle.mlp_layout.specs.Allowed.{Allowed}
 use Rattle.mlp_params.specs.Parameters.{params}
-use Rattle.mlp_params.specs.RestartHeader.{restart}
 use Rattle.mlp_params.specs.States.{IsState}
 use Rattle.mlp_layout.proofs.RuleReading.{rule_holds}
 use Rattle.mlp_residual.specs.declared.frames.Coding.{Coding}
