@@ -62,13 +62,6 @@ module _ (Made : Bool → List ℕ → Result Unit Stop → List ℕ → Type 0)
     pub writes : Appends output.before output.behind put
     pub wrote : Wrote input taken put end
 
--- what stopped the work on the input, if anything did
-abbrev pub stop_of : Result Unit Failure → Result Unit Stop
-stop_of (Ok _) = Ok tt
-stop_of (Err Usage) = Ok tt
-stop_of (Err OutOfMemory) = Ok tt
-stop_of (Err (Stopped stop)) = Err stop
-
 -- ---- raw PCM
 
 -- a profile that can't be encoded is refused, and both sides are left alone

@@ -4,8 +4,8 @@ ghost use Rattle.std.specs.Io.KnownBytes.{Consumes};
 ghost use Rattle.mlp_io.specs.Causes.{IsCause};
 ghost use Rattle.mlp_io.specs.Limit.{limit};
 ghost use Rattle.mlp_stream.specs.Sides.{side};
-ghost use Rattle.mlp_stream.specs.Pumped.{is_read_fault, is_write_fault};
-ghost use Rattle.mlp_encoding.specs.Encodes.{EncodesRaw, stop_of};
+ghost use Rattle.mlp_answers.specs.Failures.{is_read_failure, is_write_failure};
+ghost use Rattle.mlp_encoding.specs.Encodes.{EncodesRaw};
 
 use crate::encode::Encode;
 use mlp_answers::{Failure, end_of};
@@ -41,8 +41,8 @@ pub fn encode_raw<S: Source, K: Sink>(
         EncodesRaw profile read written result }
     ensures few { let read = side S.left input.old input.new in
         (taken : List ℕ) × Consumes read.before read.behind taken × (length taken ≤ limit + 1) }
-    ensures read { IsCause (is_read_fault (stop_of result)) (S.faults input.old) (S.faults input.new) }
-    ensures write { IsCause (is_write_fault (stop_of result)) (K.faults output.old) (K.faults output.new) }
+    ensures read { IsCause (is_read_failure result) (S.faults input.old) (S.faults input.new) }
+    ensures write { IsCause (is_write_failure result) (K.faults output.old) (K.faults output.new) }
 {
     match profile.check() {
         Ok(()) => {}
