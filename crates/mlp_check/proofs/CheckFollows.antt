@@ -1,6 +1,6 @@
 -- The session of `check` does its work.
 use Rattle.std.proofs.Common.{◌≡◌, ℕ, ◌+◌, ◌<◌, ◌==◌, ◌++◌, if◌then◌else◌, Bool, true, false, List, [], ◌∷◌, length, map, Result, Ok, Err, Option, Some, None, refl, sym, ap, subst, ◌∙◌, arith, length-append}
-use Rattle.std.specs.Prelude.{count_by, is_some}
+use Rattle.std.specs.Prelude.{count_by, is_some, ◌≢◌}
 use Rattle.std.specs.Option.{option_map}
 use Rattle.std.proofs.lemmas.List.{map-append, length-replicate}
 use Rattle.std.proofs.lemmas.List.Sums.{sum_by-append}
@@ -44,9 +44,27 @@ use Rattle.mlp_check.specs.declared.report.Report.{Report}
 use Rattle.mlp_check.specs.Checking.{output_timing, timing_in, timed_unit, IsReport, checking}
 use Rattle.mlp_samples.specs.Behind.{left_behind}
 use Rattle.mlp_samples.proofs.Streams.{in_force_some}
-use Rattle.mlp_check.specs.Check.{CheckState, check_opened, begun, one_if, after_checked, check_reader, check_step, report_of, report_after, check_last, HasChecked, Checked}
+use Rattle.mlp_check.specs.Check.{CheckState, check_opened, begun, one_if, after_checked, check_reader, check_step, report_of, report_after, check_last}
 use Rattle.mlp_check.proofs.Restarts.{timing_is}
 use Rattle.mlp_check.proofs.Reports.{checking_is}
+
+-- what the session knows of units that it took, if there are any
+pub record HasChecked (k : ℕ) (us : List Unit_of) (s : CheckState) : Type 0 where
+  pub channels : s.held.channels ≡ channels_by k (left_behind k us)
+  pub synced : is_some (left_behind k us).sync ≡ true
+  pub timed :
+      let sync = (left_behind k us).sync in
+      LeavesTimed (stream_kind sync) (stream_rate sync) (map timed_unit us) s.checker
+
+pub record Checked (k : ℕ) (us : List Unit_of) (s : CheckState) : Type 0 where
+  pub k_is : s.held.k ≡ k
+  pub units : s.held.units ≡ length us
+  pub left : s.held.left ≡ left_behind k us
+  pub refusal : s.held.refusal ≡ None
+  pub usable : FirstUsable (left_behind k us).sync
+  pub frames : s.frames ≡ length (frames_by_steps k (start k) us)
+  pub restarts : s.restarts ≡ count_by (λ u. is_some u.outer.major) us
+  pub some : us ≢ [] → HasChecked k us s
 
 -- ---- sums over one more unit
 

@@ -1,27 +1,25 @@
 -- What a session of `check` knows, and what it does with the next unit.
-use Rattle.std.specs.Prelude.{◌≡◌, ◌≢◌, ◌≤◌, ℕ, ◌+◌, ◌*◌, ◌==◌, Bool, true, List, [], length, map, count_by, Option, Some, None, is_some, Result, Ok, Err, if◌then◌else◌}
+use Rattle.std.specs.Prelude.{◌≡◌, ◌≤◌, ℕ, ◌+◌, ◌*◌, ◌==◌, Bool, List, [], length, Option, Some, None, is_some, Result, Ok, Err, if◌then◌else◌}
 use Rattle.std.specs.Option.{option_map}
 use Rattle.mlp_syntax.specs.declared.major.Kind.TheVariants.{Fba}
 use Rattle.mlp_syntax.specs.declared.major.MajorSync.{MajorSync}
 use Rattle.mlp_syntax.specs.declared.segment.Segment.{Segment}
 use Rattle.mlp_syntax.specs.declared.unit.UnitHead.{UnitHead}
 use Rattle.mlp_major.specs.MajorSync.{kind_of, rate_in_hertz}
-use Rattle.mlp_unit.specs.AccessUnit.{AccessUnit, stream_kind, stream_rate}
+use Rattle.mlp_unit.specs.AccessUnit.{AccessUnit, stream_rate}
 use Rattle.mlp_unit.specs.Written.{FirstUsable}
 use Rattle.mlp_walk.specs.declared.refusal.Refusal.{Refusal as Declined}
 use Rattle.mlp_walk.specs.Next.{Taken}
 use Rattle.mlp_stream.specs.declared.refusal.Refusal.{Refusal}
 use Rattle.mlp_stream.specs.Moves.{Move}
 use Rattle.mlp_answers.specs.Reading.{refusal_of, Reader, read_step}
-use Rattle.mlp_contents.specs.Units.{Left, Unit_of, start, whole, frames_out}
-use Rattle.mlp_fifo.specs.Timed.{LeftChecker, LeavesTimed}
+use Rattle.mlp_contents.specs.Units.{Left, Unit_of, whole, frames_out}
+use Rattle.mlp_fifo.specs.Timed.{LeftChecker}
 use Rattle.mlp_fifo.specs.Checked.{empty_checker, checked_after}
-use Rattle.mlp_present.specs.Decoding.{Held, opened, after_unit, channels_by, is_open_behind, last_word}
-use Rattle.mlp_samples.specs.Samples.{frames_by_steps}
+use Rattle.mlp_present.specs.Decoding.{Held, opened, after_unit, is_open_behind, last_word}
 use Rattle.mlp_check.specs.declared.report.Report.{Report}
 use Rattle.mlp_check.specs.Report.{report_text}
-use Rattle.mlp_check.specs.Checking.{timing_in, timed_unit}
-use Rattle.mlp_samples.specs.Behind.{left_behind}
+use Rattle.mlp_check.specs.Checking.{timing_in}
 
 -- a decoder, a checker of timings, and of the units taken the number of frames and of major syncs
 pub record CheckState : Type 0 where
@@ -102,21 +100,3 @@ pub record IsChecking (held : Held) (checker : LeftChecker) (timed : Bool) (fram
   pub few : frames ≤ 160 * held.units
   pub fewer : restarts ≤ held.units
   pub usable : FirstUsable held.left.sync
-
--- what the session knows of units that it took, if there are any
-pub record HasChecked (k : ℕ) (us : List Unit_of) (s : CheckState) : Type 0 where
-  pub channels : s.held.channels ≡ channels_by k (left_behind k us)
-  pub synced : is_some (left_behind k us).sync ≡ true
-  pub timed :
-      let sync = (left_behind k us).sync in
-      LeavesTimed (stream_kind sync) (stream_rate sync) (map timed_unit us) s.checker
-
-pub record Checked (k : ℕ) (us : List Unit_of) (s : CheckState) : Type 0 where
-  pub k_is : s.held.k ≡ k
-  pub units : s.held.units ≡ length us
-  pub left : s.held.left ≡ left_behind k us
-  pub refusal : s.held.refusal ≡ None
-  pub usable : FirstUsable (left_behind k us).sync
-  pub frames : s.frames ≡ length (frames_by_steps k (start k) us)
-  pub restarts : s.restarts ≡ count_by (λ u. is_some u.outer.major) us
-  pub some : us ≢ [] → HasChecked k us s

@@ -9,9 +9,22 @@ use Rattle.mlp_recover.specs.Interval.{NoneAt}
 use Rattle.mlp_recover.specs.Recovered.{Piece, Lost, Kept, Tile, Apart, IsRight}
 use Rattle.mlp_recover.specs.Spans.{span_of, HasFewFrames, AreSpans}
 use Rattle.mlp_recover.specs.Sync.{NoSyncIn}
-use Rattle.mlp_recover.specs.Reading.{IsKeptFrom, lost_between, IsFound}
+use Rattle.mlp_recover.specs.Reading.{IsKeptFrom, lost_between, EndsKept}
 use Rattle.mlp_recover.proofs.Pieces.{tile_more, apart_behind, apart_kept, ends_kept}
 use Rattle.mlp_recover.proofs.Syncs.{none_without_sync}
+
+-- these spans are those of the bytes up to `told`, of which the last is kept, and between there and `at` no interval begins
+pub record IsFound (k : ℕ) (bytes : List ℕ) (told at : ℕ) (spans : List Span) : Type 0 where
+  pub pieces : List Piece
+  pub tile : Tile 0 pieces told
+  pub right : All (IsRight k bytes) pieces
+  pub apart : Apart pieces
+  pub last : EndsKept pieces
+  pub spans_are : spans ≡ map (span_of k) pieces
+  pub few : All HasFewFrames spans
+  pub none : (place : ℕ) → told ≤ place → place < at → NoneAt k bytes place
+  pub order : told ≤ at
+  pub within : at ≤ length bytes
 
 module _ (k : ℕ) (bytes : List ℕ) where
   -- nothing begins up to a place before which no sync stands

@@ -1,5 +1,5 @@
 -- Reading an interval, one unit after the other, and all of them.
-use Rattle.std.specs.Prelude.{◌≡◌, ◌≢◌, ℕ, ◌+◌, ◌*◌, ◌<◌, ◌≤◌, nat_lt, ◌&&◌, if◌then◌else◌, Bool, false, List, [], ◌∷◌, length, drop, All, map, Option, Some, None, is_some}
+use Rattle.std.specs.Prelude.{◌≡◌, ◌≢◌, ℕ, ◌+◌, ◌*◌, ◌<◌, ◌≤◌, nat_lt, ◌&&◌, if◌then◌else◌, Bool, false, List, [], ◌∷◌, length, drop, All, Option, Some, None, is_some}
 use Rattle.mlp_syntax.specs.declared.unit.Outer.{Outer}
 use Rattle.mlp_bits.specs.Bits.{bits_of}
 use Rattle.mlp_layout.specs.Layout.{Found}
@@ -15,7 +15,7 @@ use Rattle.mlp_recover.specs.declared.reach.Reading.{Reading}
 use Rattle.mlp_recover.specs.declared.reach.Reading.TheVariants.{More, Whole, Broken}
 use Rattle.mlp_recover.specs.Interval.{HasNoSync, Interval, NoneAt}
 use Rattle.mlp_samples.specs.Behind.{left_behind}
-use Rattle.mlp_recover.specs.Recovered.{Piece, Lost, Kept, is_lost, Tile, Apart, IsRight}
+use Rattle.mlp_recover.specs.Recovered.{Piece, Lost, Kept, is_lost}
 use Rattle.mlp_recover.specs.Spans.{span_of, HasFewFrames}
 
 -- ---- the first unit
@@ -93,16 +93,3 @@ abbrev pub EndsKept : List Piece → Type 0
 EndsKept [] = Unit {0}
 EndsKept (p ∷ []) = is_lost p ≡ false
 EndsKept (p ∷ q ∷ ps) = EndsKept (q ∷ ps)
-
--- these spans are those of the bytes up to `told`, of which the last is kept, and between there and `at` no interval begins
-pub record IsFound (k : ℕ) (bytes : List ℕ) (told at : ℕ) (spans : List Span) : Type 0 where
-  pub pieces : List Piece
-  pub tile : Tile 0 pieces told
-  pub right : All (IsRight k bytes) pieces
-  pub apart : Apart pieces
-  pub last : EndsKept pieces
-  pub spans_are : spans ≡ map (span_of k) pieces
-  pub few : All HasFewFrames spans
-  pub none : (place : ℕ) → told ≤ place → place < at → NoneAt k bytes place
-  pub order : told ≤ at
-  pub within : at ≤ length bytes

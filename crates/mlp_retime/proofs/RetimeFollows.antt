@@ -36,9 +36,23 @@ use Rattle.mlp_sessions.proofs.NoUnit.{none_read}
 use Rattle.mlp_retime.specs.Top.{highest, top}
 use Rattle.mlp_retime.specs.Retimed.{length_of}
 use Rattle.mlp_retime.specs.Retiming.{fifo_for, behind_placed, fifo_behind, retimed_out, sync_with, retiming}
-use Rattle.mlp_retime.specs.Retimer.{RetimeState, retime_opened, after_top, buffer_for, with_state, retime_given, retime_reader, retime_step, last_said, retime_last, HasRetimed}
+use Rattle.mlp_retime.specs.Retimer.{RetimeState, retime_opened, after_top, buffer_for, with_state, retime_given, retime_reader, retime_step, last_said, retime_last}
 use Rattle.mlp_retime.proofs.Decoders.{units_by, sync_by, k_by, left_by, some_none}
 use Rattle.mlp_retime.specs.SessionLaws.{top_is, top_bytes, top_open}
+
+-- what the session knows of units that it took, if there are any
+pub record HasPlaced (us : List Unit_of) (s : RetimeState) : Type 0 where
+  pub synced : is_none s.held.left.sync ≡ false
+  pub k_is : s.held.k ≡ highest s.held.left.sync
+  pub fifo : s.fifo ≡ fifo_behind (fifo_for s.held.left.sync) (map length_of us)
+
+pub record HasRetimed (us : List Unit_of) (s : RetimeState) : Type 0 where
+  pub units : s.held.units ≡ length us
+  pub left : s.held.left ≡ left_after top (start 0) us
+  pub refusal : s.refusal ≡ None
+  pub none_refused : s.held.refusal ≡ None
+  pub usable : FirstUsable s.held.left.sync
+  pub some : us ≢ [] → HasPlaced us s
 
 pub retiming_is : IsWorking retiming
 retiming_is = record {

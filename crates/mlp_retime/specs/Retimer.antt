@@ -1,10 +1,9 @@
 -- What a retimer knows, and what it does with the next unit.
-use Rattle.std.specs.Prelude.{◌≡◌, ◌≢◌, ℕ, ◌+◌, ◌*◌, ◌%◌, ◌<◌, ◌==◌, Bool, false, List, [], length, take, map, is_none, Option, Some, None, Result, Ok, Err, if◌then◌else◌}
+use Rattle.std.specs.Prelude.{◌≡◌, ℕ, ◌+◌, ◌*◌, ◌%◌, ◌<◌, ◌==◌, Bool, false, List, take, is_none, Option, Some, None, Result, Ok, Err, if◌then◌else◌}
 use Rattle.mlp_syntax.specs.declared.major.Kind.TheVariants.{Fba}
 use Rattle.mlp_syntax.specs.declared.major.MajorSync.{MajorSync}
 use Rattle.mlp_syntax.specs.declared.segment.Segment.{Segment}
 use Rattle.mlp_syntax.specs.declared.unit.Outer.{Outer}
-use Rattle.mlp_layout.specs.Streams.{left_after}
 use Rattle.mlp_unit.specs.AccessUnit.{AccessUnit, in_force, stream_kind, substreams_of, stream_rate}
 use Rattle.mlp_unit.specs.Shape.{unit_with}
 use Rattle.mlp_unit.specs.Written.{FirstUsable}
@@ -12,7 +11,7 @@ use Rattle.mlp_walk.specs.Next.{Taken, next_of}
 use Rattle.mlp_stream.specs.declared.refusal.Refusal.{Refusal}
 use Rattle.mlp_stream.specs.Moves.{Move}
 use Rattle.mlp_answers.specs.Reading.{Reader, read_step}
-use Rattle.mlp_contents.specs.Units.{Left, Unit_of, start, whole}
+use Rattle.mlp_contents.specs.Units.{Left, Unit_of, whole}
 use Rattle.mlp_fifo.specs.Pace.{pace_of}
 use Rattle.mlp_fifo.specs.Schedule.{out_of}
 use Rattle.mlp_fifo.specs.LeftFifo.{LeftFifo}
@@ -25,7 +24,7 @@ use Rattle.mlp_retime.specs.Top.{highest, top}
 use Rattle.mlp_cut.specs.Cut.{unit_bytes}
 use Rattle.mlp_retime.specs.Retimed.{length_of}
 use Rattle.mlp_retime.specs.Stamping.{rewritten}
-use Rattle.mlp_retime.specs.Retiming.{fifo_for, behind_placed, fifo_behind, retimed_out}
+use Rattle.mlp_retime.specs.Retiming.{fifo_for, behind_placed, retimed_out}
 
 -- a decoder, a buffer, and what was refused
 pub record RetimeState : Type 0 where
@@ -158,17 +157,3 @@ pub record IsRetiming (held : Held) (fifo : LeftFifo) (refusal : Option Refusal)
   pub usable : FirstUsable held.left.sync
   pub is_top : refusal ≡ None → IsTop held
   pub buffer : refusal ≡ None → 0 < held.units → IsBuffer held fifo
-
--- what the session knows of units that it took, if there are any
-pub record HasPlaced (us : List Unit_of) (s : RetimeState) : Type 0 where
-  pub synced : is_none s.held.left.sync ≡ false
-  pub k_is : s.held.k ≡ highest s.held.left.sync
-  pub fifo : s.fifo ≡ fifo_behind (fifo_for s.held.left.sync) (map length_of us)
-
-pub record HasRetimed (us : List Unit_of) (s : RetimeState) : Type 0 where
-  pub units : s.held.units ≡ length us
-  pub left : s.held.left ≡ left_after top (start 0) us
-  pub refusal : s.refusal ≡ None
-  pub none_refused : s.held.refusal ≡ None
-  pub usable : FirstUsable s.held.left.sync
-  pub some : us ≢ [] → HasPlaced us s

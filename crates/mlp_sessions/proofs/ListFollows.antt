@@ -14,7 +14,7 @@ use Rattle.mlp_stream.specs.Pumped.{Pumped}
 use Rattle.mlp_stream.specs.declared.refusal.Refusal.{Refusal}
 use Rattle.mlp_walk.specs.declared.refusal.Refusal.TheVariants as declined
 use Rattle.mlp_walk.specs.Next.{Taken}
-use Rattle.mlp_answers.specs.Working.{IsWorking}
+use Rattle.mlp_answers.specs.Working.{IsWorking, left_of}
 use Rattle.mlp_answers.specs.Answers.{HasOneAnswer}
 use Rattle.mlp_answers.specs.Works.{Works}
 use Rattle.mlp_answers.specs.Reading.{refusal_of}
@@ -24,12 +24,18 @@ use Rattle.mlp_answers.proofs.RunLaws.{works}
 use Rattle.mlp_answers.proofs.SomeAnswer.{has_one_answer}
 use Rattle.mlp_outline.specs.Outlining.{Outlined, nothing_read, after_outline}
 use Rattle.mlp_sessions.specs.ListLine.{unit_line}
-use Rattle.mlp_sessions.specs.Listing.{OutlineUnit, listing, list_reader, list_step, list_last, Listed}
+use Rattle.mlp_sessions.specs.Listing.{OutlineUnit, listing, list_reader, list_step, list_last}
 use Rattle.mlp_answers.specs.Reading.{no_unit}
 use Rattle.mlp_unit.proofs.OutlineLaws.{outline_is}
 use Rattle.mlp_outline.proofs.Outlines.{outline_bytes, outline_broken}
 use Rattle.mlp_sessions.specs.ListLaws.{outline_open}
 use Rattle.mlp_sessions.proofs.NoUnit.{none_read}
+
+-- what the session knows of the units that it took
+pub record Listed (us : List OutlineUnit) (held : Outlined) : Type 0 where
+  pub units : held.units ≡ length us
+  pub first : held.first ≡ left_of listing us
+  pub refusal : held.refusal ≡ None
 
 pub listing_is : IsWorking listing
 listing_is = record {

@@ -31,9 +31,19 @@ use Rattle.mlp_contents.specs.Inner.{channels_of}
 use Rattle.mlp_contents.specs.Units.{Left, Unit_of, start, whole, after, frames_out}
 use Rattle.mlp_contents.proofs.FormatLaws.{whole_is, whole_bytes}
 use Rattle.mlp_present.specs.Decoding.{channels_by, is_open_behind, last_of, no_unit}
-use Rattle.mlp_sessions.specs.Playing.{unit_played, frames_given, playing, Player, player, after_played, with_session, decode_reader, decode_step, on_end, decode_last, Played}
+use Rattle.mlp_sessions.specs.Playing.{unit_played, frames_given, playing, Player, player, after_played, with_session, decode_reader, decode_step, on_end, decode_last}
 use Rattle.mlp_sessions.specs.PlayLaws.{whole_open}
 use Rattle.mlp_sessions.proofs.NoUnit.{none_read}
+
+-- what the session knows of the units that it took
+pub record Played (k bits : ℕ) (us : List Unit_of) (s : Player) : Type 0 where
+  pub k_is : s.held.k ≡ k
+  pub units : s.held.units ≡ length us
+  pub left : s.held.left ≡ left_after (whole k) (start k) us
+  pub channels : s.held.channels ≡ channels_by k (left_after (whole k) (start k) us)
+  pub refusal : s.held.refusal ≡ None
+  pub bits_are : s.bits ≡ bits
+  pub frames : s.frames ≡ frames_given k (start k) us
 
 pub playing_is : (k bits : ℕ) → IsWorking (playing k bits)
 playing_is k bits = record {

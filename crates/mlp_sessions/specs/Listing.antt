@@ -8,7 +8,7 @@ use Rattle.mlp_unit.specs.Outline.{outline}
 use Rattle.mlp_walk.specs.Next.{Taken}
 use Rattle.mlp_stream.specs.declared.refusal.Refusal.{Refusal}
 use Rattle.mlp_stream.specs.Moves.{Move}
-use Rattle.mlp_answers.specs.Working.{Working, left_of}
+use Rattle.mlp_answers.specs.Working.{Working}
 use Rattle.mlp_answers.specs.Reading.{refusal_of, no_unit, Reader, read_step}
 use Rattle.mlp_outline.specs.Next.{is_open}
 use Rattle.mlp_outline.specs.Outlining.{Outlined, after_outline}
@@ -53,9 +53,3 @@ list_step = read_step outline None is_open_outline list_reader
 
 abbrev pub list_last : Outlined → Result (List ℕ) Refusal
 list_last held = if held.units == 0 then Err no_unit else Ok []
-
--- what the session knows of the units that it took
-pub record Listed (us : List OutlineUnit) (held : Outlined) : Type 0 where
-  pub units : held.units ≡ length us
-  pub first : held.first ≡ left_of listing us
-  pub refusal : held.refusal ≡ None

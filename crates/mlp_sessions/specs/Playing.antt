@@ -95,13 +95,3 @@ on_end (Err refusal) = Err (refusal_of refusal)
 
 abbrev pub decode_last : Player → Result (List ℕ) Refusal
 decode_last s = on_end (last_word s.held)
-
--- what the session knows of the units that it took
-pub record Played (k bits : ℕ) (us : List Unit_of) (s : Player) : Type 0 where
-  pub k_is : s.held.k ≡ k
-  pub units : s.held.units ≡ length us
-  pub left : s.held.left ≡ left_after (whole k) (start k) us
-  pub channels : s.held.channels ≡ channels_by k (left_after (whole k) (start k) us)
-  pub refusal : s.held.refusal ≡ None
-  pub bits_are : s.bits ≡ bits
-  pub frames : s.frames ≡ frames_given k (start k) us

@@ -10,9 +10,9 @@ use Rattle.mlp_answers.specs.Answers.{AreUnits, Answer}
 use Rattle.mlp_answers.specs.Works.{Wrote as WroteRaw}
 use Rattle.mlp_pcm.specs.WaveHeader.{padded}
 use Rattle.mlp_contents.specs.Units.{Left, Unit_of}
-use Rattle.mlp_sessions.specs.Playing.{places, playing, Player, player, decode_step, decode_last, Played}
+use Rattle.mlp_sessions.specs.Playing.{places, playing, Player, player, decode_step, decode_last}
 use Rattle.mlp_unit.specs.AccessUnit.{stream_rate}
-use Rattle.mlp_sessions.proofs.PlayFollows.{decode_works, decode_took}
+use Rattle.mlp_sessions.proofs.PlayFollows.{decode_works, decode_took, Played}
 use Rattle.mlp_answers.specs.Failures.{failure_by, end_of}
 use Rattle.mlp_wave.specs.WaveFile.{wave_file, most_of_samples, stated_channels, stated_rate, PutFile}
 use Rattle.mlp_wave.specs.Saved.{Saves, fits, too_many, stops, Begun, Wrote, Saved}

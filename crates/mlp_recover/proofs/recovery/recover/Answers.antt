@@ -1,8 +1,7 @@
 use Rattle.std.proofs.Common.{subst, sym}
 use Rattle.std.specs.Prelude.{All}
 use Rattle.mlp_recover.specs.Spans.{HasFewFrames, AreSpans}
-use Rattle.mlp_recover.specs.Reading.{IsFound}
-use Rattle.mlp_recover.proofs.Finding.{found_lost, found_kept, found_all}
+use Rattle.mlp_recover.proofs.Finding.{found_lost, found_kept, found_all, IsFound}
 use Rattle.mlp_recover.proofs.recovery.recover.Goals as goal
 
 pub syncs-preserved-in-Some-interval : goal.syncs-preserved-in-Some-interval

@@ -1,6 +1,6 @@
 use Rattle.std.proofs.Common.{◌-◌, length}
-use Rattle.mlp_recover.specs.Reading.{IsFound}
 use Rattle.mlp_recover.proofs.recovery.recover.Given as goal
+use Rattle.mlp_recover.proofs.Finding.{IsFound}
 
 abbrev pub invariant-syncs : goal.invariant-syncs
 invariant-syncs l = IsFound l.k l.bytes l.told l.at l.spans.items
