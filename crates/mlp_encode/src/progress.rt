@@ -17,6 +17,7 @@ use crate::numbers::has_sync;
 use crate::sync::sync_of;
 use crate::unit::{Written, checks_behind, fill_up, send_substreams, terminator_of};
 use arrayvec::ArrayVec;
+use mlp_bits::BitWriter;
 use mlp_fifo::{Fifo, Pace};
 use mlp_fold::{CodedFrame, Profile, code_frames};
 use mlp_params::State;
@@ -65,6 +66,7 @@ impl Scratch {
             presented: [[0; 8]; 160],
             written: Written {
                 segment: Segment::default(),
+                writer: BitWriter::new(),
                 entries: ArrayVec::new(),
                 bytes: ArrayVec::new(),
             },

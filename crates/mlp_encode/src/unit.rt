@@ -24,11 +24,12 @@ use crate::numbers::has_sync;
 use crate::segments::send_segment;
 use crate::sync::restart_of;
 use arrayvec::ArrayVec;
+use mlp_bits::BitWriter;
 use mlp_fold::{CodedFrame, Profile, present_frames};
 use mlp_output::folded;
 use mlp_params::State;
 use mlp_predict::Predictor;
-use mlp_substream::{Place, write_segment};
+use mlp_substream::{Place, write_segment_with};
 use mlp_syntax::{DirEntry, Kind, Restart, Segment, UnitBytes};
 
 /// A frame, or zeros behind the last one.
@@ -120,6 +121,8 @@ fn entry_at(sync: bool, end: usize) -> DirEntry
 #[derive(Drop)]
 pub struct Written {
     pub segment: Segment,
+    /// What the segment was written with.
+    pub writer: BitWriter,
     /// One for each segment. An end is counted in words.
     pub entries: ArrayVec<DirEntry, 4>,
     pub bytes: UnitBytes,
@@ -165,7 +168,13 @@ pub fn send_substream(
         pasts,
         &mut out.segment,
     );
-    let _too_long = write_segment(place, writing, &out.segment, &mut out.bytes);
+    let _too_long = write_segment_with(
+        &mut out.writer,
+        place,
+        writing,
+        &out.segment,
+        &mut out.bytes,
+    );
     out.entries.push(entry_at(place.major, out.bytes.len()));
 }
 
