@@ -2,7 +2,7 @@
 
 ghost use Rattle.std.specs.Prelude.{◌≡◌, ◌<◌, ◌≤◌, ◌+◌, ◌-◌, ◌^◌, ◌++◌, [], take, drop, reverse, replicate, length, All, pos, neg_ℤ, ◌≤ℤ◌};
 ghost use Rattle.mlp_predict.specs.Prediction.{predicted, outputs_of, past_of, IsCoefficient};
-ghost use Rattle.mlp_predict.specs.Lines.{past_in, filters_in};
+ghost use Rattle.mlp_predict.specs.Lines.{past_in, filters_in, finished};
 
 use crate::history::History;
 use crate::lines::put_before;
@@ -23,6 +23,32 @@ fn predict_alone<const M: usize>(fir: &[i32; M], shift: u8, outputs: &[i32], i: 
     floor_by(shift, dot(fir, &outputs[16 + i - M..16 + i]))
 }
 
+/// Replaces `count` residuals of the block by outputs, from sample `start` on.
+#[inline(always)]
+fn restore_run<const M: usize>(
+    fir: &[i32; M],
+    shift: u8,
+    step: u8,
+    outputs: &mut [i32],
+    start: usize,
+    count: usize,
+)
+    requires few { M ≤ 16 }
+    requires small { All IsCoefficient fir.now }
+    requires shift { shift < 16 }
+    requires step { step < 16 }
+    requires room { 16 + start + count ≤ length outputs.old }
+    ensures { finished (filters_in fir.now [] shift) step (16 + start + count) outputs.new
+        ≡ finished (filters_in fir.now [] shift) step (16 + start) outputs.old }
+{
+    for i in 0..count {
+        let at = start + i;
+        let prediction = predict_alone(fir, shift, outputs, at);
+        let output = output_of(step, prediction, outputs[16 + at]);
+        outputs[16 + at] = output;
+    }
+}
+
 /// Replaces the residuals of the block by outputs.
 #[inline(always)]
 fn restore_alone<const M: usize>(fir: &[i32; M], shift: u8, step: u8, outputs: &mut [i32])
@@ -34,11 +60,13 @@ fn restore_alone<const M: usize>(fir: &[i32; M], shift: u8, step: u8, outputs: &
     ensures { outputs.new ≡ take 16 outputs.old
         ++ outputs_of (filters_in fir.now [] shift) (past_in (take 16 outputs.old) []) step (drop 16 outputs.old) }
 {
-    for i in 0..outputs.len() - 16 {
-        let prediction = predict_alone(fir, shift, outputs, i);
-        let output = output_of(step, prediction, outputs[16 + i]);
-        outputs[16 + i] = output;
+    let count = outputs.len() - 16;
+    // Few coefficients stay in registers with the latest outputs: four samples at a time.
+    let runs = if M > 4 { 0 } else { count / 4 };
+    for i in 0..runs {
+        restore_run(fir, shift, step, outputs, i * 4, 4);
     }
+    restore_run(fir, shift, step, outputs, runs * 4, count - runs * 4);
 }
 
 /// Replaces the residuals of a block by outputs, from the latest outputs on, which come before the block in the line.
