@@ -1,5 +1,5 @@
 -- The search by filters: choices of a number cost what they cost over the residuals, and others have no cost.
-use Rattle.std.proofs.Common.{◌≡◌, ℕ, ◌+◌, ◌-◌, ◌≤◌, ℤ, pos, Bool, true, false, List, ◌++◌, Option, Some, None, arith, refl, sym, ◌∙◌, ap}
+use Rattle.std.proofs.Common.{◌≡◌, ℕ, ◌+◌, ◌-◌, ◌≤◌, ℤ, pos, Bool, true, false, List, ◌++◌, Option, Some, None, arith, refl, sym, ◌∙◌, ap, subst}
 use Rattle.std.specs.Prelude.{All, ◌&&◌, ◌||◌, ◌==◌, IsTrue, IsSome, FitsSigned, unwrap_or, if◌then◌else◌, nat_le, option_map}
 use Rattle.std.specs.Int.{w32}
 use Rattle.std.specs.List.{list_all, flat_map, range_with_len}
@@ -100,6 +100,13 @@ module _ (force : ChannelState) (past : Past) (step : ℕ) (filters : Bool) (sam
       ∙ ap (λ (j : ℕ). least_from (cost_over force step filters pair rs) best (with_books j (middle_of step rs))) number
       ∙ ap (λ (xs : List ℤ). least_from (cost_over force step filters pair xs) best (with_books n (middle_of step xs))) is
       ∙ found_here best pair there
+
+-- .. by a number that is the same
+pub same_number : (force : ChannelState) (past : Past) (step : ℕ) (samples : List ℤ) (best result : Option Choice) (n m : ℕ) → n ≡ m
+    → result ≡ least_from (cost_of force past step true samples) best (with_books m (middle_for force past step samples m))
+    → result ≡ least_from (cost_of force past step true samples) best (with_books n (middle_for force past step samples n))
+same_number force past step samples best result n m e h =
+    subst (λ (k : ℕ). result ≡ least_from (cost_of force past step true samples) best (with_books k (middle_for force past step samples k))) (sym e) h
 
 -- a choice whose residuals aren't all words
 pub no_cost_at : (force : ChannelState) (past : Past) (step : ℕ) (filters : Bool) (samples : List ℤ) (c : Choice) (pair : Pair) (fit : Bool) → pair_of force step samples c.filter ≡ Some pair

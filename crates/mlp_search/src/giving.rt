@@ -12,6 +12,7 @@ use mlp_params::ChannelState;
 use mlp_syntax::{ChannelParams, Filter};
 
 /// Whether two filters without a state are the same.
+#[inline(always)]
 fn same_filter(a: &Filter<8>, b: &Filter<8>) -> bool
     ensures { result ≡ same_filter a.now b.now }
 {
@@ -22,6 +23,7 @@ fn same_filter(a: &Filter<8>, b: &Filter<8>) -> bool
 }
 
 /// Whether no FIR is written: that of filter 0, or one that is in force.
+#[inline(always)]
 pub(crate) fn fir_stays(state: &ChannelState, number: u8, pair: &PairRef<'_>) -> bool
     ensures { result ≡ fir_stays state.now number pair.now }
 {
@@ -29,6 +31,7 @@ pub(crate) fn fir_stays(state: &ChannelState, number: u8, pair: &PairRef<'_>) ->
 }
 
 /// Whether no IIR is written: that of filter 0, or where there is none and none is in force.
+#[inline(always)]
 pub(crate) fn iir_stays(state: &ChannelState, number: u8, pair: &PairRef<'_>) -> bool
     ensures { result ≡ iir_stays state.now number pair.now }
 {

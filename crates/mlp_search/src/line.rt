@@ -151,6 +151,7 @@ fn taps_of<const M: usize>(coeffs: &[i32]) -> [i32; M]
 }
 
 /// Puts what `M` light coefficients leave of the block.
+#[inline(always)]
 fn put_light<const M: usize>(coeffs: &[i32], shift: u8, whole: &[i32], values: &mut [i32])
     requires few { M ≤ 4 }
     requires count { length coeffs.now ≡ M }
@@ -182,6 +183,7 @@ fn put_split<const M: usize>(coeffs: &[i32], shift: u8, line: &Line<'_>, values:
 }
 
 /// Puts what at most 4 light coefficients leave of the block.
+#[inline(always)]
 fn put_any_light(coeffs: &[i32], shift: u8, whole: &[i32], values: &mut [i32])
     requires few { length coeffs.now ≤ 4 }
     requires light { All IsLight coeffs.now }
@@ -200,6 +202,7 @@ fn put_any_light(coeffs: &[i32], shift: u8, whole: &[i32], values: &mut [i32])
 }
 
 /// Puts what at most 8 coefficients of 16 bits leave of the block.
+#[inline(never)]
 fn put_any_split(coeffs: &[i32], shift: u8, line: &Line<'_>, values: &mut [i32])
     requires few { length coeffs.now ≤ 8 }
     requires small_coeffs { All IsCoefficient coeffs.now }
@@ -225,6 +228,7 @@ fn put_any_split(coeffs: &[i32], shift: u8, line: &Line<'_>, values: &mut [i32])
 }
 
 /// Whether all coefficients are light.
+#[inline(always)]
 fn are_light(coeffs: &[i32]) -> bool
     ensures { IsTrue result → All IsLight coeffs.now }
 {
@@ -240,6 +244,7 @@ fn are_light(coeffs: &[i32]) -> bool
 }
 
 /// Puts what a FIR leaves of the block, where its coefficients are light or its shift is at least 13; else false.
+#[inline(always)]
 fn reduce_by(coeffs: &[i32], shift: u8, line: &Line<'_>, values: &mut [i32]) -> bool
     requires few { length coeffs.now ≤ 8 }
     requires small_coeffs { All IsCoefficient coeffs.now }
@@ -267,6 +272,7 @@ fn reduce_by(coeffs: &[i32], shift: u8, line: &Line<'_>, values: &mut [i32]) -> 
 }
 
 /// Puts what filters without an IIR leave of the block, in quantisation steps; false where that isn't done here.
+#[inline(always)]
 pub(crate) fn reduce_in(pair: &PairRef<'_>, line: &Line<'_>, values: &mut [i32]) -> bool
     requires filters { AreFilters pair.now.fir pair.now.iir }
     requires room { length line.now.whole.now ≡ 8 + length values.old }

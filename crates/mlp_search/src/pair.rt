@@ -51,6 +51,7 @@ impl Pair {
 }
 
 /// A list of the same coefficients.
+#[inline(always)]
 fn copied<const N: usize>(coeffs: &[i32]) -> ArrayVec<i32, N>
     requires { length coeffs.now ≤ N }
     ensures { result.items ≡ coeffs.now }
@@ -61,6 +62,7 @@ fn copied<const N: usize>(coeffs: &[i32]) -> ArrayVec<i32, N>
 }
 
 /// A filter of these coefficients of so many bits.
+#[inline(always)]
 fn filter_with<const N: usize>(shift: u8, coeff_bits: u8, coeffs: &[i32]) -> Filter<N>
     requires { length coeffs.now ≤ N }
     ensures { result ≡ filter_with shift coeff_bits coeffs.now }
@@ -89,6 +91,7 @@ fn copied_filter<const N: usize>(filter: &Filter<N>) -> Filter<N>
 }
 
 /// No filter.
+#[inline(always)]
 pub(crate) fn without<const N: usize>() -> Filter<N>
     ensures { result ≡ absent }
 {
@@ -96,6 +99,7 @@ pub(crate) fn without<const N: usize>() -> Filter<N>
 }
 
 /// A FIR without an IIR.
+#[inline(always)]
 fn alone(fir: Filter<8>) -> Pair
     ensures { result ≡ alone fir }
 {
@@ -106,6 +110,7 @@ fn alone(fir: Filter<8>) -> Pair
 }
 
 /// A FIR beside the IIR that takes half of the latest difference away.
+#[inline(always)]
 fn beside_half(fir: Filter<8>) -> Pair
     ensures { result ≡ beside_half fir }
 {
@@ -116,6 +121,7 @@ fn beside_half(fir: Filter<8>) -> Pair
 }
 
 /// The filters of the table, by number.
+#[inline(always)]
 pub(crate) fn in_table(number: u8) -> Pair
     requires least { 1 ≤ number }
     requires most { number ≤ 9 }

@@ -107,6 +107,7 @@ fn put_halved<const M: usize>(
 }
 
 /// Whether an IIR takes half of the latest difference away, and no coefficients are shifted.
+#[inline(always)]
 fn takes_half(fir: &Filter<8>, iir: &Filter<4>) -> bool
     ensures shift { IsTrue result → fir.now.shift ≡ 2 }
     ensures fir { IsTrue result → fir.now.coeff_shift ≡ 0 }
@@ -125,6 +126,7 @@ fn takes_half(fir: &Filter<8>, iir: &Filter<4>) -> bool
 
 /// How far the latest prediction was above its sample, as the filters of a number with one difference see it; None
 /// where that is far.
+#[inline(always)]
 fn excess_before(history: &Predictor<8, 4>, number: u8) -> Option<i32>
     ensures few { IfSome result (λ g. unsigned_abs g ≤ 2 ^ 29) }
     ensures seen { (pair : Pair) → order_of pair.iir ≡ 1 → IfSome result (λ g.
@@ -144,6 +146,7 @@ fn excess_before(history: &Predictor<8, 4>, number: u8) -> Option<i32>
 }
 
 /// Puts what a FIR of first or second differences leaves beside such an IIR; false where it is another.
+#[inline(always)]
 fn reduce_beside(coeffs: &[i32], step: u8, excess: i32, line: &Line<'_>, values: &mut [i32]) -> bool
     requires step { step ≤ 8 }
     requires excess { unsigned_abs excess ≤ 2 ^ 29 }
@@ -178,6 +181,7 @@ fn reduce_beside(coeffs: &[i32], step: u8, excess: i32, line: &Line<'_>, values:
 
 /// Puts what the filters of a number leave of the block, in quantisation steps, where the IIR takes half of the latest
 /// difference away beside a FIR of first or second differences; else false.
+#[inline(always)]
 pub(crate) fn reduce_recursive(
     history: &Predictor<8, 4>,
     step: u8,

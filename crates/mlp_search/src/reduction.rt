@@ -47,6 +47,7 @@ fn put_state(history: &mut Predictor<8, 4>, number: u8, pair: &PairRef<'_>)
 }
 
 /// Puts what the filters of a number leave of the samples; false where some residual hasn't 32 signed bits.
+#[inline(never)]
 pub(crate) fn residuals_for(
     history: &Predictor<8, 4>,
     step: u8,
@@ -81,6 +82,7 @@ pub(crate) fn count_steps(step: u8, residuals: &mut [i32])
 
 /// Puts what the filters of a number leave of samples without low `step` bits, in steps of 2^step; false where some
 /// residual hasn't 32 signed bits.
+#[inline(always)]
 pub(crate) fn values_for(
     history: &Predictor<8, 4>,
     step: u8,

@@ -1,15 +1,19 @@
 //! The choice for a block.
 
-ghost use Rattle.std.specs.Prelude.{◌≡◌, ◌≤◌, ◌<◌, ◌*◌, ◌+◌, length, All, IsTrue, true, false, Some, None, if◌then◌else◌};
+ghost use Rattle.std.specs.Prelude.{◌≡◌, ◌≤◌, ◌<◌, ◌*◌, ◌+◌, length, map, All, FitsSigned, IsTrue, true, false, Some, None, if◌then◌else◌};
+ghost use Rattle.std.specs.Int.{w32};
 ghost use Rattle.std.specs.List.{flat_map, range_with_len};
 ghost use Rattle.mlp_arith.specs.Words.{clear};
 ghost use Rattle.mlp_arith.specs.Ranges.{Is26};
 ghost use Rattle.mlp_params.specs.Filters.{order_of};
 ghost use Rattle.mlp_params.specs.States.{IsChannelState};
-ghost use Rattle.mlp_search.specs.Candidates.{AreComputed, pair_of};
-ghost use Rattle.mlp_search.specs.Cost.{cost_of};
+ghost use Rattle.mlp_search.specs.Candidates.{AreComputed, pair_of, middle_of};
+ghost use Rattle.mlp_search.specs.Given.{IsPair};
+ghost use Rattle.mlp_search.specs.Cost.{cost_over, cost_of};
+ghost use Rattle.mlp_search.specs.Folded.{stepped};
 ghost use Rattle.mlp_search.specs.Lines.{IsIn};
 ghost use Rattle.mlp_search.specs.Least.{IsWithinFirst, is_better, least_from, with_books, middle_for, chosen, IsLeast};
+ghost use Rattle.mlp_search.specs.Trial.{IsWriting};
 
 use crate::choice::Choice;
 use crate::line::{Line, put_line};
@@ -25,6 +29,7 @@ use mlp_syntax::Filter;
 
 /// Whether the filters of a number, which write this, leave the best so far as it is: they write nothing, as filter 0,
 /// or too many bits.
+#[inline(always)]
 fn is_hopeless(number: u8, writing: &Writing, best: Option<Choice>) -> bool
     ensures stays { IsTrue result → writing.now.stays ≡ true → 1 ≤ number }
     ensures bits { IsTrue result → writing.now.stays ≡ false →
@@ -36,7 +41,32 @@ fn is_hopeless(number: u8, writing: &Writing, best: Option<Choice>) -> bool
     !is_better(11 + u64::from(writing.bits), best)
 }
 
+/// The best so far, with the choices of the filters of a number, which leave these values.
+#[inline(never)]
+fn with_values(
+    state: &ChannelState,
+    step: u8,
+    number: u8,
+    pair: PairRef<'_>,
+    writing: &Writing,
+    values: &[i32],
+    best: Option<Choice>,
+) -> Option<Choice>
+    requires step { step ≤ 8 }
+    requires pair { IsPair pair }
+    requires writing { IsWriting state.now number pair writing.now }
+    requires few { length values.now ≤ 160 }
+    requires words { All (FitsSigned w32) (map (stepped step) values.now) }
+    ensures { let rs = map (stepped step) values.now in result
+        ≡ least_from (cost_over state.now step true pair.entry rs) best
+        (with_books number (middle_of 0 values.now)) }
+{
+    let trial = trial_of(0, number, pair, writing, values);
+    with_books(state, step, &trial, values, best)
+}
+
 /// The best so far, with the choices of the filters of a number.
+#[inline(always)]
 fn with_filters(
     state: &ChannelState,
     history: &Predictor<8, 4>,
@@ -69,8 +99,84 @@ fn with_filters(
     if !values_for(history, step, number, &pair, samples, line, values) {
         return best;
     }
-    let trial = trial_of(0, number, pair, &writing, values);
-    with_books(state, step, &trial, values, best)
+    with_values(state, step, number, pair, &writing, values, best)
+}
+
+/// The best so far, with the choices of filter `N` of the table.
+#[inline(always)]
+fn with_entry<const N: u8>(
+    state: &ChannelState,
+    history: &Predictor<8, 4>,
+    step: u8,
+    samples: &[i32],
+    line: &Line<'_>,
+    values: &mut [i32],
+    best: Option<Choice>,
+) -> Option<Choice>
+    requires least { 1 ≤ N }
+    requires most { N ≤ 9 }
+    requires state { IsChannelState state.now }
+    requires step { step ≤ 8 }
+    requires few { length samples.now ≤ 160 }
+    requires samples { All Is26 samples.now }
+    requires whole { All (λ x. clear step x ≡ x) samples.now }
+    requires first { IsWithinFirst (cost_of state.now history.now step true samples.now) best }
+    requires line { IsTrue line.now.narrow → IsIn step history.now samples.now line.now }
+    requires room { length samples.now ≡ length values.old }
+    ensures { let mid = middle_for state.now history.now step samples.now N in result
+        ≡ least_from (cost_of state.now history.now step true samples.now) best (with_books N mid) }
+{
+    let pair = in_table(N);
+    with_filters(
+        state,
+        history,
+        step,
+        N,
+        pair.view(),
+        samples,
+        line,
+        values,
+        best,
+    )
+}
+
+/// The best so far, with the choices of a filter of the table: each is compiled by itself.
+#[inline(always)]
+fn with_any_entry(
+    state: &ChannelState,
+    history: &Predictor<8, 4>,
+    step: u8,
+    number: u8,
+    samples: &[i32],
+    line: &Line<'_>,
+    values: &mut [i32],
+    best: Option<Choice>,
+) -> Option<Choice>
+    requires least { 1 ≤ number }
+    requires most { number ≤ 9 }
+    requires state { IsChannelState state.now }
+    requires step { step ≤ 8 }
+    requires few { length samples.now ≤ 160 }
+    requires samples { All Is26 samples.now }
+    requires whole { All (λ x. clear step x ≡ x) samples.now }
+    requires first { IsWithinFirst (cost_of state.now history.now step true samples.now) best }
+    requires line { IsTrue line.now.narrow → IsIn step history.now samples.now line.now }
+    requires room { length samples.now ≡ length values.old }
+    ensures { let mid = middle_for state.now history.now step samples.now number in result
+        ≡ least_from (cost_of state.now history.now step true samples.now) best
+        (with_books number mid) }
+{
+    match number {
+        1 => with_entry::<1>(state, history, step, samples, line, values, best),
+        2 => with_entry::<2>(state, history, step, samples, line, values, best),
+        3 => with_entry::<3>(state, history, step, samples, line, values, best),
+        4 => with_entry::<4>(state, history, step, samples, line, values, best),
+        5 => with_entry::<5>(state, history, step, samples, line, values, best),
+        6 => with_entry::<6>(state, history, step, samples, line, values, best),
+        7 => with_entry::<7>(state, history, step, samples, line, values, best),
+        8 => with_entry::<8>(state, history, step, samples, line, values, best),
+        _ => with_entry::<9>(state, history, step, samples, line, values, best),
+    }
 }
 
 /// The best so far, with the choices of the filters of the table.
@@ -96,18 +202,7 @@ fn with_table(
         (range_with_len 1 9)) }
 {
     for number in 1..10 {
-        let pair = in_table(number);
-        best = with_filters(
-            state,
-            history,
-            step,
-            number,
-            pair.view(),
-            samples,
-            line,
-            values,
-            best,
-        );
+        best = with_any_entry(state, history, step, number, samples, line, values, best);
     }
     best
 }

@@ -63,6 +63,7 @@ impl Tally {
     }
 
     /// The bits in a book with so many low bits, where they were counted.
+    #[inline(always)]
     fn sum_of(&self, book: u8, b: u8) -> Option<u32>
         requires book { book ≤ 3 }
         requires b { 0 < book → b < 25 }
@@ -82,6 +83,7 @@ impl Tally {
 }
 
 /// The bits that the symbols of all values take, for a book and low bits that may have been counted.
+#[inline(always)]
 pub(crate) fn symbols(tally: &Option<Tally>, book: u8, values: &[i32], offset: i16, b: u8) -> u64
     requires few { length values.now ≤ 160 }
     requires book { book ≤ 3 }
@@ -100,6 +102,7 @@ pub(crate) fn symbols(tally: &Option<Tally>, book: u8, values: &[i32], offset: i
 }
 
 /// Counts all values that are moved by an offset.
+#[inline(always)]
 pub(crate) fn tally_of(values: &[i32], offset: i16, low: u8) -> Tally
     requires few { length values.now ≤ 160 }
     requires low { low < 28 }
@@ -165,6 +168,7 @@ pub struct Tallies {
 }
 
 /// Counts all values of a side, where it is wanted and they aren't too great.
+#[inline(always)]
 pub(crate) fn tally_side(values: &[i32], side: &Side, wanted: bool) -> Option<Tally>
     requires few { length values.now ≤ 160 }
     requires top { side.now.top ≡ top_of (all_folded side.now.offset values.now) }

@@ -39,6 +39,7 @@ pub struct Trial<'a> {
 }
 
 /// How many bits a filter without a state takes.
+#[inline(always)]
 fn filter_bits<const N: usize>(filter: &Filter<N>) -> u16
     requires few { N ≤ 8 }
     ensures value { result ≡ filter_bits filter.now }
@@ -52,6 +53,7 @@ fn filter_bits<const N: usize>(filter: &Filter<N>) -> u16
 }
 
 /// How many bits a FIR takes, where it is written.
+#[inline(always)]
 fn fir_bits(stays: bool, fir: &Filter<8>) -> u16
     ensures value { result ≡ fir_bits (if stays then None else Some fir.now) }
     ensures few { result ≤ 2057 }
@@ -60,6 +62,7 @@ fn fir_bits(stays: bool, fir: &Filter<8>) -> u16
 }
 
 /// How many bits an IIR takes, where it is written.
+#[inline(always)]
 fn iir_bits(stays: bool, iir: &Filter<4>) -> u16
     ensures value { result ≡ iir_bits (if stays then None else Some (with_zeros iir.now)) }
     ensures few { result ≤ 2065 }
@@ -74,6 +77,7 @@ fn iir_bits(stays: bool, iir: &Filter<4>) -> u16
 }
 
 /// What the filters of a number write.
+#[inline(always)]
 pub(crate) fn writing_of(state: &ChannelState, number: u8, pair: &PairRef<'_>) -> Writing
     ensures { IsWriting state.now number pair.now result }
 {
@@ -115,6 +119,7 @@ fn middle_of(least: i32, greatest: i32) -> i16
 }
 
 /// The filters of a number, which leave these residuals.
+#[inline(always)]
 pub(crate) fn trial_of<'a>(
     step: u8,
     number: u8,

@@ -86,6 +86,7 @@ pub(crate) fn choice_of(filter: u8, book: u8, low: u8, offset: i16) -> Choice
 }
 
 /// What a choice costs that has a code for each value.
+#[inline(always)]
 fn cost_with_codes(
     state: &ChannelState,
     step: u8,

@@ -1,5 +1,6 @@
 use Rattle.std.proofs.Common.{◌≡◌, ◌+◌, ℕ, ℤ, Bool, true, false, map, refl, sym, ap, ◌∙◌}
 use Rattle.std.proofs.lemmas.Bool.{and_parts}
+use Rattle.mlp_search.specs.Candidates.{middle_of}
 use Rattle.mlp_search.specs.Cost.{cost_of}
 use Rattle.mlp_search.specs.Given.{fir_stays, iir_stays}
 use Rattle.mlp_search.specs.Least.{is_better, least_from, with_books, middle_for}
@@ -26,9 +27,6 @@ returns-then-is_hopeless c = pick c.writing_of-writing.result.stays refl
         too_many c.args.state.now c.args.history.now c.args.step c.args.samples.now c.args.number c.args.pair c.requires.state c.requires.pair mid c.args.best
         (sym c.writing_of-writing.ensures.stays ∙ e) (ap (λ (k : ℕ). is_better (11 + k) c.args.best) (sym c.writing_of-writing.ensures.bits) ∙ c.is_hopeless.ensures.bits c.if-is_hopeless.true e)
 
-pub with_books-requires-clause-trial : goal.with_books-requires-clause-trial
-with_books-requires-clause-trial c = c.trial_of-trial.ensures.trial c.args.state.now c.writing_of-writing.ensures
-
 pub returns-then-not-values_for : goal.returns-then-not-values_for
 returns-then-not-values_for c =
     too_wide_at c.args.state.now c.args.history.now c.args.step true c.args.samples.now c.args.number (middle_for c.args.state.now c.args.history.now c.args.step c.args.samples.now c.args.number) c.args.best
@@ -36,15 +34,14 @@ returns-then-not-values_for c =
 
 pub returns : goal.returns
 returns c =
-    found_over c.args.state.now c.args.history.now c.args.step true c.args.samples.now c.args.number c.args.best c.with_books.result c.args.pair c.trial_of-trial.result.pair (map (stepped c.args.step) c.values_for.new.values)
-    c.trial_of-trial.result.number c.trial_of-trial.result.middle c.requires.pair (c.values_for.ensures.values c.if-not-values_for.false) c.trial_of-trial.ensures.pair c.trial_of-trial.ensures.number
-    ((c.trial_of-trial.ensures.trial c.args.state.now c.writing_of-writing.ensures).middle ∙ same_middle c.args.step c.values_for.new.values) c.with_books.ensures
+    found_over c.args.state.now c.args.history.now c.args.step true c.args.samples.now c.args.number c.args.best c.with_values.result c.args.pair c.args.pair (map (stepped c.args.step) c.values_for.new.values)
+    c.args.number (middle_of 0 c.values_for.new.values) c.requires.pair (c.values_for.ensures.values c.if-not-values_for.false) refl refl (same_middle c.args.step c.values_for.new.values) c.with_values.ensures
 
 pub values_for-requires-clause-filters : goal.values_for-requires-clause-filters
 values_for-requires-clause-filters c =
     pair_usable c.args.pair
     (pair_there c.args.state.now c.args.step c.args.samples.now c.args.number c.args.pair c.requires.state c.requires.pair)
 
-pub trial_of-trial-requires-clause-pair : goal.trial_of-trial-requires-clause-pair
-trial_of-trial-requires-clause-pair c =
+pub with_values-requires-clause-pair : goal.with_values-requires-clause-pair
+with_values-requires-clause-pair c =
     pair_there c.args.state.now c.args.step c.args.samples.now c.args.number c.args.pair c.requires.state c.requires.pair

@@ -1,21 +1,17 @@
-use Rattle.std.proofs.Common.{◌-◌, true, Some, arith, sym, ap, ◌∙◌}
+use Rattle.std.proofs.Common.{◌-◌, true, arith}
 use Rattle.std.specs.List.{flat_map, range_with_len}
 use Rattle.mlp_search.specs.Cost.{cost_of}
 use Rattle.mlp_search.specs.Least.{with_books, middle_for}
 use Rattle.mlp_search.proofs.Scanning.{scan_more_from, scan_ends}
-use Rattle.mlp_search.proofs.ComputedPairs.{table_pair}
 use Rattle.mlp_search.proofs.SkipLaws.{still_within}
 use Rattle.mlp_search.proofs.search.with_table.Goals as goal
 
 pub loop-number-preserved : goal.loop-number-preserved
 loop-number-preserved c =
-    scan_more_from (cost_of c.args.state.now c.args.history.now c.args.step true c.args.samples.now) (λ n. with_books n (middle_for c.args.state.now c.args.history.now c.args.step c.args.samples.now n)) c.args.best c.loop-number.best c.with_filters-best.result 1 c.loop-number.number (omega arith) c.loop-number.invariant c.with_filters-best.ensures
+    scan_more_from (cost_of c.args.state.now c.args.history.now c.args.step true c.args.samples.now) (λ n. with_books n (middle_for c.args.state.now c.args.history.now c.args.step c.args.samples.now n)) c.args.best c.loop-number.best c.with_any_entry-best.result 1 c.loop-number.number (omega arith) c.loop-number.invariant c.with_any_entry-best.ensures
 
-pub with_filters-best-requires-clause-pair : goal.with_filters-best-requires-clause-pair
-with_filters-best-requires-clause-pair c = table_pair c.args.state.now c.args.step c.args.samples.now c.loop-number.number (omega arith) (omega arith) ∙ c.in_table-pair.ensures ∙ ap Some (sym c.view.ensures)
-
-pub with_filters-best-requires-clause-first : goal.with_filters-best-requires-clause-first
-with_filters-best-requires-clause-first c = λ some. still_within (cost_of c.args.state.now c.args.history.now c.args.step true c.args.samples.now) c.args.best c.loop-number.best (flat_map (λ n. with_books n (middle_for c.args.state.now c.args.history.now c.args.step c.args.samples.now n)) (range_with_len 1 (c.loop-number.number - 1))) c.loop-number.invariant c.requires.first
+pub with_any_entry-best-requires-clause-first : goal.with_any_entry-best-requires-clause-first
+with_any_entry-best-requires-clause-first c = still_within (cost_of c.args.state.now c.args.history.now c.args.step true c.args.samples.now) c.args.best c.loop-number.best (flat_map (λ n. with_books n (middle_for c.args.state.now c.args.history.now c.args.step c.args.samples.now n)) (range_with_len 1 (c.loop-number.number - 1))) c.loop-number.invariant c.requires.first
 
 pub returns : goal.returns
 returns c = scan_ends (cost_of c.args.state.now c.args.history.now c.args.step true c.args.samples.now) (λ n. with_books n (middle_for c.args.state.now c.args.history.now c.args.step c.args.samples.now n)) c.args.best c.loop-number.best 1 c.loop-number.number 9 (omega arith) c.loop-number.invariant
