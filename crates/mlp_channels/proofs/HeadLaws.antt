@@ -9,7 +9,6 @@ use Rattle.mlp_syntax.specs.declared.segment.FrameCode.{FrameCode}
 use Rattle.mlp_layout.specs.Layout.{never}
 use Rattle.mlp_layout.specs.Allowed.{Allowed}
 use Rattle.mlp_params.specs.declared.state.State.{State}
-use Rattle.mlp_params.specs.RestartHeader.{restart}
 use Rattle.mlp_params.specs.Parameters.{params}
 use Rattle.mlp_params.specs.InForce.{restarted_channel, in_force}
 use Rattle.mlp_params.specs.States.{IsState}
