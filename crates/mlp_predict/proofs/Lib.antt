@@ -7,3 +7,4 @@ pub mod Sequences
 pub mod FrameLists
 pub mod LineLaws
 pub mod AloneLaws
+pub mod ReducingLaws

@@ -11,7 +11,7 @@ use mlp_arith::floor_by;
 
 /// The prediction of sample `i` of the block, by coefficients of which the first belongs to the oldest output.
 #[inline(always)]
-fn predict_alone<const M: usize>(fir: &[i32; M], shift: u8, outputs: &[i32], i: usize) -> i64
+pub fn predict_alone<const M: usize>(fir: &[i32; M], shift: u8, outputs: &[i32], i: usize) -> i64
     requires few { M ≤ 16 }
     requires small { All IsCoefficient fir.now }
     requires shift { shift < 16 }

@@ -8,6 +8,7 @@ mod history;
 pub mod laws;
 mod lines;
 mod predictor;
+mod reducing;
 mod sample;
 
 pub use history::History;

@@ -10,6 +10,7 @@ use crate::alone::{put_differences, restore_behind};
 use crate::filters::{shift_of, taps, taps_back};
 use crate::history::History;
 use crate::lines::restore_between;
+use crate::reducing::reduce_behind;
 use crate::sample::{difference_of, dot, output_of, residual_of};
 use mlp_arith::floor_by;
 use mlp_syntax::{Filter, FilterState};
@@ -459,6 +460,53 @@ impl<const F: usize, const I: usize> Predictor<F, I> {
         )
     }
 
+    /// A block of residuals without an IIR, by sums of `M` products; false where some residual hasn't 32 signed bits.
+    fn reduce_simply<const M: usize>(
+        &mut self,
+        fir: &Filter<F>,
+        iir: &Filter<I>,
+        step: u8,
+        samples: &[i32],
+        residuals: &mut [i32],
+    ) -> bool
+        requires any_difference { 0 < I }
+        requires fir_room { F ≤ 16 }
+        requires iir_room { I ≤ 16 }
+        requires products { M ≤ 16 }
+        requires few { length fir.now.coeffs.items ≤ M }
+        requires none { length iir.now.coeffs.items ≡ 0 }
+        requires filters { AreFilters fir.now iir.now }
+        requires step { step < 16 }
+        requires most { length samples.now ≤ 160 }
+        requires room { length samples.now ≡ length residuals.old }
+        ensures fit { IsTrue result
+            ↔ All (FitsSigned w32) (residuals_of (filters_of fir.now iir.now) self.old step samples.now) }
+        ensures values { IsTrue result →
+            residuals.new ≡ residuals_of (filters_of fir.now iir.now) self.old step samples.now }
+        ensures past { IsTrue result →
+            self.new ≡ latest F I (past_of (filters_of fir.now iir.now) self.old samples.now) }
+    {
+        let fir_taps: [i32; M] = taps_back(fir.coeffs.as_slice(), fir.coeff_shift);
+        let shift = shift_of(fir, iir);
+        let mut outputs = [0; 176];
+        let latest = self.outputs.as_slice();
+        if !reduce_behind(
+            &fir_taps,
+            shift,
+            step,
+            latest,
+            &mut outputs,
+            samples,
+            residuals,
+        ) {
+            return false;
+        }
+        let line = &outputs[..16 + samples.len()];
+        put_differences(&fir_taps, shift, line, &mut self.differences);
+        self.outputs.replace_all(line);
+        true
+    }
+
     /// As `reduce_through`, with sums of products that fit filters with an IIR.
     fn reduce_paired(
         &mut self,
@@ -526,17 +574,20 @@ impl<const F: usize, const I: usize> Predictor<F, I> {
         if iir.coeffs.as_slice().len() > 0 {
             return self.reduce_paired(fir, iir, step, samples, residuals);
         }
+        if samples.len() > 160 {
+            return self.reduce_with::<F, 0>(fir, iir, step, samples, residuals);
+        }
         match order {
-            0 => self.reduce_with::<0, 0>(fir, iir, step, samples, residuals),
-            1 => self.reduce_with::<1, 0>(fir, iir, step, samples, residuals),
-            2 => self.reduce_with::<2, 0>(fir, iir, step, samples, residuals),
-            3 => self.reduce_with::<3, 0>(fir, iir, step, samples, residuals),
-            4 => self.reduce_with::<4, 0>(fir, iir, step, samples, residuals),
-            5 => self.reduce_with::<5, 0>(fir, iir, step, samples, residuals),
-            6 => self.reduce_with::<6, 0>(fir, iir, step, samples, residuals),
-            7 => self.reduce_with::<7, 0>(fir, iir, step, samples, residuals),
-            8 => self.reduce_with::<8, 0>(fir, iir, step, samples, residuals),
-            _ => self.reduce_with::<F, 0>(fir, iir, step, samples, residuals),
+            0 => self.reduce_simply::<0>(fir, iir, step, samples, residuals),
+            1 => self.reduce_simply::<1>(fir, iir, step, samples, residuals),
+            2 => self.reduce_simply::<2>(fir, iir, step, samples, residuals),
+            3 => self.reduce_simply::<3>(fir, iir, step, samples, residuals),
+            4 => self.reduce_simply::<4>(fir, iir, step, samples, residuals),
+            5 => self.reduce_simply::<5>(fir, iir, step, samples, residuals),
+            6 => self.reduce_simply::<6>(fir, iir, step, samples, residuals),
+            7 => self.reduce_simply::<7>(fir, iir, step, samples, residuals),
+            8 => self.reduce_simply::<8>(fir, iir, step, samples, residuals),
+            _ => self.reduce_simply::<16>(fir, iir, step, samples, residuals),
         }
     }
 
