@@ -1,8 +1,8 @@
 -- Folded values, one after the other.
-use Rattle.std.proofs.Common.{◌≡◌, ℕ, zero, suc, ◌<◌, ◌≤◌, ℤ, pos, negsuc, ◌-ℤ◌, ◌≤ℤ◌, List, [], ◌∷◌, length, get_or, arith, refl, ◌∙◌, ap, inl, inr}
+use Rattle.std.proofs.Common.{◌≡◌, ℕ, zero, suc, ◌<◌, ◌≤◌, ℤ, pos, negsuc, neg_ℤ, ◌-ℤ◌, ◌*ℤ◌, ◌≤ℤ◌, List, [], ◌∷◌, length, get_or, arith, refl, sym, ◌∙◌, ap, inl, inr}
 use Rattle.std.specs.Prelude.{max, ◌⊎◌}
 use Rattle.std.specs.Int.{int_min, int_max}
-use Rattle.std.proofs.lemmas.Int.{ints}
+use Rattle.std.proofs.lemmas.Int.{ints, clamps}
 use Rattle.std.proofs.lemmas.Bool.{cases_lt}
 use Rattle.mlp_search.specs.Candidates.{least_from, least_of, greatest_from, greatest_of}
 use Rattle.mlp_search.specs.Folded.{folded, all_folded, top_of, all_symbol_bits}
@@ -65,3 +65,31 @@ top_is m [] lt = absurd (omega (arith, lt))
 top_is m (v ∷ vs) lt =
     let twice : max (folded (v -ℤ m)) (top_of (all_folded m vs)) ≡ max (max (folded (v -ℤ m)) (folded (v -ℤ m))) (top_of (all_folded m vs)) = omega arith in
     twice ∙ tops m v v vs (omega (arith, ints))
+
+ordered : (l g : ℤ) (vs : List ℤ) → l ≤ℤ g → least_from l vs ≤ℤ greatest_from g vs
+ordered l g [] le = le
+ordered l g (v ∷ vs) le = ordered (int_min l v) (int_max g v) vs (grind (arith, ints, le))
+
+pub ends_ordered : (vs : List ℤ) → least_of vs ≤ℤ greatest_of vs
+ends_ordered [] = omega (arith, ints)
+ends_ordered (v ∷ vs) = ordered v v vs (omega (arith, ints))
+
+-- the greater folded value of two is that of the greater or that of the less
+folded_ends : (b a : ℤ) → b ≤ℤ a → pos (max (folded b) (folded a)) ≡ int_max (pos 2 *ℤ a) (neg_ℤ (pos 1) -ℤ pos 2 *ℤ b)
+folded_ends (pos m) (pos n) le = omega (arith, ints, clamps, le)
+folded_ends (pos m) (negsuc n) le = absurd (omega (arith, ints, le))
+folded_ends (negsuc m) (pos n) le = omega (arith, ints, clamps, le)
+folded_ends (negsuc m) (negsuc n) le = omega (arith, ints, clamps, le)
+
+top_ends : (m : ℤ) (vs : List ℤ) → (length vs ≡ 0 → m ≡ pos 0) → pos (top_of (all_folded m vs)) ≡ int_max (pos 2 *ℤ (greatest_of vs -ℤ m)) (neg_ℤ (pos 1) -ℤ pos 2 *ℤ (least_of vs -ℤ m))
+top_ends m [] none = let e : m ≡ pos 0 = none refl in omega (arith, ints, clamps, e)
+top_ends m (v ∷ vs) none =
+    ap pos (top_is m (v ∷ vs) (omega arith))
+    ∙ folded_ends (least_of (v ∷ vs) -ℤ m) (greatest_of (v ∷ vs) -ℤ m) (omega (arith, ints, ends_ordered (v ∷ vs)))
+
+pub top_of_ends : (m a b l g : ℤ) (vs : List ℤ) → a ≡ pos 2 *ℤ (g -ℤ m) → b ≡ neg_ℤ (pos 1) -ℤ pos 2 *ℤ (l -ℤ m) → l ≡ least_of vs → g ≡ greatest_of vs → (length vs ≡ 0 → m ≡ pos 0)
+    → int_max a b ≡ pos (top_of (all_folded m vs))
+top_of_ends m a b l g vs above below least greatest none =
+    ap (λ (x : ℤ). int_max x b) (above ∙ ap (λ (v : ℤ). pos 2 *ℤ (v -ℤ m)) greatest)
+    ∙ ap (λ (y : ℤ). int_max (pos 2 *ℤ (greatest_of vs -ℤ m)) y) (below ∙ ap (λ (v : ℤ). neg_ℤ (pos 1) -ℤ pos 2 *ℤ (v -ℤ m)) least)
+    ∙ sym (top_ends m vs none)

@@ -169,28 +169,6 @@ pub fewest_any : (book b sum : ℕ) (us : List ℕ) → 0 < book → sum ≤ rai
 fewest_any zero b sum us some le = absurd (omega (arith, some))
 fewest_any (suc book) b sum us some le = fewest_codes book b sum us le
 
-bound_first : (book b : ℕ) → book ≡ 1 → bound_of book b ≡ b + 1
-bound_first book b e = ap (λ (k : ℕ). bound_of k b) e
-
-bound_later : (book b : ℕ) → 2 ≤ book → bound_of book b ≡ b
-bound_later zero b le = absurd (omega (arith, le))
-bound_later (suc zero) b le = absurd (omega (arith, le))
-bound_later (suc (suc book)) b le = refl
-
-half_fewest : (book b sum power count : ℕ) (us : List ℕ) → 0 < book → power ≡ bound_of book b → length us ≡ count → sum ≤ raised_sum us → ((2 * power + 1) * count + sum / 2 ^ power + 1) / 2 ≤ length us * b + all_symbol_bits book b us
-half_fewest book b sum power count us some e same le =
-    let twice = fewest_any book b sum us some le in
-    let is : (2 * power + 1) * count + sum / 2 ^ power ≡ (2 * bound_of book b + 1) * length us + sum / 2 ^ bound_of book b =
-    ap (λ (k : ℕ). (2 * k + 1) * count + sum / 2 ^ k) e ∙ ap (λ (n : ℕ). (2 * bound_of book b + 1) * n + sum / 2 ^ bound_of book b) (sym same)
-    in
-    omega (arith, twice, is)
-
-pub first_fewest : (book b sum power count : ℕ) (us : List ℕ) → book ≡ 1 → power ≡ b + 1 → length us ≡ count → sum ≤ raised_sum us → ((2 * power + 1) * count + sum / 2 ^ power + 1) / 2 ≤ length us * b + all_symbol_bits book b us
-first_fewest book b sum power count us one e same le = half_fewest book b sum power count us (omega (arith, one)) (e ∙ sym (bound_first book b one)) same le
-
-pub later_fewest : (book b sum power count : ℕ) (us : List ℕ) → 2 ≤ book → power ≡ b → length us ≡ count → sum ≤ raised_sum us → ((2 * power + 1) * count + sum / 2 ^ power + 1) / 2 ≤ length us * b + all_symbol_bits book b us
-later_fewest book b sum power count us two e same le = half_fewest book b sum power count us (omega (arith, two)) (e ∙ sym (bound_later book b two)) same le
-
 -- the least symbols
 pub least_symbols : (book b symbol : ℕ) (us : List ℕ) → ((p : ℕ) → symbol ≤ symbol_bits book p) → length us * symbol ≤ all_symbol_bits book b us
 least_symbols book b symbol [] each = omega arith

@@ -10,10 +10,11 @@ use Rattle.mlp_residual.specs.Coding.{symbols_of}
 use Rattle.mlp_search.specs.declared.choice.Choice.{Choice}
 use Rattle.mlp_search.specs.declared.trial.Trial.{Trial}
 use Rattle.mlp_search.specs.declared.sides.Side.{Side}
+use Rattle.mlp_search.specs.declared.sides.Sides.{Sides}
 use Rattle.mlp_search.specs.Cost.{most_low, bits_for, parameter_sum, cost_over}
 use Rattle.mlp_search.specs.Folded.{stepped, symbol_bits, all_folded, top_of, all_symbol_bits}
 use Rattle.mlp_search.specs.Least.{is_better, better, least_from, choice_of, with_offsets, with_lows}
-use Rattle.mlp_search.specs.Trial.{Writes, IsSide, IsFewest}
+use Rattle.mlp_search.specs.Trial.{Writes, IsSide, IsFewest, AreSides}
 use Rattle.mlp_search.proofs.CandidateLaws.{ranges}
 use Rattle.mlp_search.proofs.CodeBits.{never_better}
 use Rattle.mlp_search.proofs.CostLaws.{costs_from, parameters_is, offset_fits}
@@ -196,3 +197,22 @@ module _ (force : ChannelState) (step : ℕ) (t : Trial) (vs : List ℤ) (w : Wr
         sym (kept_scanned (cost_over force step true t.pair (map (stepped step) vs)) best (flat_map (with_lows t.number t.middle) (range_with_len 1 3))
         (along_range (λ c. better best c (cost_over force step true t.pair (map (stepped step) vs) c) ≡ best) (with_lows t.number t.middle) 1 3
         (λ book from to. book_kept book bits best (omega (arith, from)) (omega (arith, to)) (fewer z bits zbits zle zf) (fewer m bits mbits mle mf) h)))
+
+-- ---- sides with other bounds
+
+side_with : (force : ChannelState) (step : ℕ) (t : Trial) (vs : List ℤ) (s : Side) (least : ℕ) → IsSide force step t vs s → IsFewest vs s least → IsSide force step t vs (record s { least = least })
+side_with force step t vs s least is few = record { offset = is.offset; top = is.top; under = is.under; base = is.base; least = few }
+
+pub sides_with : (force : ChannelState) (step : ℕ) (t : Trial) (vs : List ℤ) (s : Sides) (z m : Side) (zleast mleast : ℕ) → AreSides force step t vs s → IsFewest vs s.zero zleast → IsFewest vs s.middle mleast
+    → z ≡ record s.zero { least = zleast } → m ≡ record s.middle { least = mleast } → AreSides force step t vs (record { zero = z; middle = m })
+sides_with force step t vs s z m zleast mleast are zf mf ze me =
+    subst (λ (x : Side). AreSides force step t vs (record { zero = x; middle = m })) (sym ze)
+    (subst (λ (y : Side). AreSides force step t vs (record { zero = record s.zero { least = zleast }; middle = y })) (sym me)
+    (record {
+      zero = side_with force step t vs s.zero zleast are.zero zf;
+      zero_small = record { base = are.zero_small.base; width = are.zero_small.width };
+      at_zero = are.at_zero;
+      middle = side_with force step t vs s.middle mleast are.middle mf;
+      middle_small = record { base = are.middle_small.base; width = are.middle_small.width };
+      at_middle = are.at_middle;
+    }))

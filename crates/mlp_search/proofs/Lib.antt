@@ -27,3 +27,4 @@ pub mod LineLaws
 pub mod LineFits
 pub mod SkipLaws
 pub mod RecursiveLaws
+pub mod SameLists

@@ -17,7 +17,7 @@ use Rattle.mlp_predict.proofs.AloneLaws.{fir_alone, past_by}
 use Rattle.mlp_residual.proofs.Codes.{floor_multiple}
 use Rattle.mlp_search.specs.declared.pair.Pair.{Pair}
 use Rattle.mlp_search.specs.Folded.{stepped}
-use Rattle.mlp_search.specs.Lines.{IsLine, alone_by, left_in, halving, halved}
+use Rattle.mlp_search.specs.Lines.{IsLine, alone_by, left_in, halving, excesses}
 use Rattle.mlp_search.proofs.LineLaws.{mul_moved, sub-mul, floor_nest, dot_stepped, no_zero, clear_none}
 use Rattle.mlp_search.proofs.LineFits.{line_outputs, line_samples, scaled_none, shift_is}
 
@@ -100,6 +100,25 @@ difference p x next e few =
 
 -- ---- all samples
 
+-- What is left of samples, in quantisation steps, by their rises: what they have above predictions without an IIR. How
+-- far a prediction is above its sample is half of how far the one before was, rounded down, less the rise.
+abbrev pub halved : ℕ → ℤ → List ℤ → List ℤ
+halved step excess [] = []
+halved step excess (d ∷ ds) =
+    neg_ℤ (floor_by step (floor_by 1 excess -ℤ stepped step d)) ∷ halved step (floor_by 1 excess -ℤ stepped step d) ds
+
+-- .. by the excesses
+pub halved_by : (q : ℕ) (g : ℤ) (ds : List ℤ) → map (λ (e : ℤ). neg_ℤ (floor_by q e)) (excesses q g ds) ≡ halved q g ds
+halved_by q g [] = refl
+halved_by q g (d ∷ ds) = ap (λ (vs : List ℤ). neg_ℤ (floor_by q (floor_by 1 g -ℤ stepped q d)) ∷ vs) (halved_by q (floor_by 1 g -ℤ stepped q d) ds)
+
+pub excesses_few : (q : ℕ) (g : ℤ) (ds : List ℤ) → unsigned_abs g ≤ 536870912 → All (λ (d : ℤ). unsigned_abs d ≤ 268435456) (map (stepped q) ds) → All (λ (e : ℤ). unsigned_abs e ≤ 536870912) (excesses q g ds)
+excesses_few q g [] few rises = All-nil (λ (e : ℤ). unsigned_abs e ≤ 536870912)
+excesses_few q g (d ∷ ds) few rises =
+    let size : unsigned_abs (floor_by 1 g -ℤ stepped q d) ≤ 536870912 = excess_size g (stepped q d) few (rises 0 (pos 0) (omega arith)) in
+    All-cons (λ (e : ℤ). unsigned_abs e ≤ 536870912) (floor_by 1 g -ℤ stepped q d) (excesses q (floor_by 1 g -ℤ stepped q d) ds) size
+    (excesses_few q (floor_by 1 g -ℤ stepped q d) ds size (λ k e l. rises (suc k) e (omega (arith, l))))
+
 halved_is : (cs : List ℤ) (q : ℕ) (ys ds es zs : List ℤ) (g : ℤ) → unsigned_abs g ≤ 536870912
     → All (λ (d : ℤ). unsigned_abs d ≤ 268435456) (map (stepped q) (residuals_of (fir_alone cs 0) (past_by ys ds) 0 zs))
     → residuals_of (halving cs) (past_by (map (stepped q) ys) (neg_ℤ g ∷ es)) q (map (stepped q) zs) ≡ map (stepped q) (halved q g (residuals_of (fir_alone cs 0) (past_by ys ds) 0 zs))
@@ -143,26 +162,24 @@ halved_fits q g (d ∷ ds) le few rises =
 
 -- ---- one sample more
 
-pub halved_more : (q : ℕ) (g : ℤ) (xs all : List ℤ) (i : ℕ) (next v : ℤ) → i < length xs → next ≡ floor_by 1 g -ℤ stepped q (get_or xs i (pos 0)) → v ≡ neg_ℤ (floor_by q next)
-    → take i xs ++ halved q g (drop i xs) ≡ all → take (i + 1) (set xs i v) ++ halved q next (drop (i + 1) (set xs i v)) ≡ all
-halved_more q g xs all i next v h n w e =
-    let head : halved q g (drop i xs) ≡ v ∷ halved q next (drop (suc i) xs) =
-    ap (halved q g) (drop-cons xs i (pos 0) h)
-    ∙ ap (λ (m : ℤ). neg_ℤ (floor_by q m) ∷ halved q m (drop (suc i) xs)) (sym n)
-    ∙ ap (λ (z : ℤ). z ∷ halved q next (drop (suc i) xs)) (sym w)
+pub excesses_more : (q : ℕ) (g : ℤ) (xs all : List ℤ) (i : ℕ) (next : ℤ) → i < length xs → next ≡ floor_by 1 g -ℤ stepped q (get_or xs i (pos 0))
+    → take i xs ++ excesses q g (drop i xs) ≡ all → take (i + 1) (set xs i next) ++ excesses q next (drop (i + 1) (set xs i next)) ≡ all
+excesses_more q g xs all i next h n e =
+    let head : excesses q g (drop i xs) ≡ next ∷ excesses q next (drop (suc i) xs) =
+    ap (excesses q g) (drop-cons xs i (pos 0) h) ∙ ap (λ (m : ℤ). m ∷ excesses q m (drop (suc i) xs)) (sym n)
     in
     rw add-one
-    (ap (λ (ys : List ℤ). ys ++ halved q next (drop (suc i) (set xs i v))) (take-suc-set xs i v h)
-    ∙ ap (λ (ys : List ℤ). (take i xs ++ v ∷ []) ++ halved q next ys) (drop-set-lt (suc i) xs i v (omega arith))
-    ∙ append_assoc (take i xs) (v ∷ []) (halved q next (drop (suc i) xs))
+    (ap (λ (ys : List ℤ). ys ++ excesses q next (drop (suc i) (set xs i next))) (take-suc-set xs i next h)
+    ∙ ap (λ (ys : List ℤ). (take i xs ++ next ∷ []) ++ excesses q next ys) (drop-set-lt (suc i) xs i next (omega arith))
+    ∙ append_assoc (take i xs) (next ∷ []) (excesses q next (drop (suc i) xs))
     ∙ ap (λ (ys : List ℤ). take i xs ++ ys) (sym head)
     ∙ e)
 
-pub halved_all : (q : ℕ) (g : ℤ) (xs all : List ℤ) (i : ℕ) → length xs ≤ i → take i xs ++ halved q g (drop i xs) ≡ all → xs ≡ all
-halved_all q g xs all i done e =
+pub excesses_all : (q : ℕ) (g : ℤ) (xs all : List ℤ) (i : ℕ) → length xs ≤ i → take i xs ++ excesses q g (drop i xs) ≡ all → xs ≡ all
+excesses_all q g xs all i done e =
     sym (append-nil xs)
     ∙ ap (λ (ys : List ℤ). ys ++ []) (sym (take_all i xs done))
-    ∙ ap (λ (ys : List ℤ). take i xs ++ halved q g ys) (sym (drop_all i xs done))
+    ∙ ap (λ (ys : List ℤ). take i xs ++ excesses q g ys) (sym (drop_all i xs done))
     ∙ e
 
 -- the rises from place i on

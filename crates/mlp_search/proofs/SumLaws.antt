@@ -15,7 +15,7 @@ use Rattle.mlp_search.proofs.FoldLaws.{quotient_below, quotient_above}
 -- ---- one number
 
 -- a quotient of a quotient
-over : (u b d k : ℕ) → k ≡ 2 ^ d → u / 2 ^ b / k ≡ u / 2 ^ (b + d)
+pub over : (u b d k : ℕ) → k ≡ 2 ^ d → u / 2 ^ b / k ≡ u / 2 ^ (b + d)
 over u b d k e = div-div-eq-div-mul u (2 ^ b) k ∙ ap (λ (n : ℕ). u / n) (ap (λ (n : ℕ). 2 ^ b * n) e ∙ sym (pow-add 2 b d))
 
 abbrev pub bit : Bool → ℕ

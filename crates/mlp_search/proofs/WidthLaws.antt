@@ -1,5 +1,5 @@
 -- Which numbers of low bits are left, by the width of the greatest folded value.
-use Rattle.std.proofs.Common.{◌≡◌, ℕ, zero, suc, ◌+◌, ◌-◌, ◌*◌, ◌/◌, ◌^◌, ◌<◌, ◌≤◌, List, length, arith, refl, ap, subst, inl, inr}
+use Rattle.std.proofs.Common.{◌≡◌, ℕ, zero, suc, ◌+◌, ◌-◌, ◌*◌, ◌/◌, ◌^◌, ◌<◌, ◌≤◌, List, length, arith, refl, subst, inl, inr}
 use Rattle.std.specs.Prelude.{min, ◌⊎◌}
 use Rattle.std.proofs.lemmas.Bool.{cases_lt, lt-ltb, le-ltb}
 use Rattle.std.proofs.Math.Nat.{mul-le-mul_left}
@@ -105,6 +105,3 @@ of_three P a k here next last from to = elim (cases_lt k (a + 1)) [
     | inr more ↦ let e : a + 2 ≡ k = omega (arith, to, more) in subst P e last
   ]
 ]
-
-pub at_power : (twice bits power p count n sum : ℕ) → twice ≤ bits → bits ≡ (2 * power + 1) * count + sum / 2 ^ power → power ≡ p → n ≡ count → twice ≤ (2 * p + 1) * n + sum / 2 ^ p
-at_power twice bits power p count n sum le is e same = omega (arith, le, is, ap (λ (k : ℕ). (2 * k + 1) * count + sum / 2 ^ k) e, ap (λ (k : ℕ). (2 * p + 1) * k) same)

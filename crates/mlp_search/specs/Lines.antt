@@ -37,12 +37,12 @@ left_in f whole = residuals_of f (past_in (take 8 whole) []) 0 (drop 8 whole)
 abbrev pub halving : List ℤ → Filters
 halving quarters = record { fir = scaled 2 quarters; iir = neg_ℤ (pos 2) ∷ []; shift = 2 }
 
--- What is left of samples, in quantisation steps, by their rises: what they have above predictions without an IIR. How
--- far a prediction is above its sample is half of how far the one before was, rounded down, less the rise.
-abbrev pub halved : ℕ → ℤ → List ℤ → List ℤ
-halved step excess [] = []
-halved step excess (d ∷ ds) =
-    neg_ℤ (floor_by step (floor_by 1 excess -ℤ stepped step d)) ∷ halved step (floor_by 1 excess -ℤ stepped step d) ds
+-- How far predictions are above their samples, by the rises of these, in quantisation steps: what they have above
+-- predictions without an IIR. Each is half of the one before, rounded down, less the rise.
+abbrev pub excesses : ℕ → ℤ → List ℤ → List ℤ
+excesses step excess [] = []
+excesses step excess (d ∷ ds) =
+    (floor_by 1 excess -ℤ stepped step d) ∷ excesses step (floor_by 1 excess -ℤ stepped step d) ds
 
 -- a coefficient of a size of at most 15
 pub record IsLight (c : ℤ) : Type 0 where

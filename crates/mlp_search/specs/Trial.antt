@@ -10,7 +10,7 @@ use Rattle.mlp_search.specs.declared.sides.Side.{Side}
 use Rattle.mlp_search.specs.declared.sides.Sides.{Sides}
 use Rattle.mlp_search.specs.declared.choice.Choice.{Choice}
 use Rattle.mlp_search.specs.Candidates.{middle_of}
-use Rattle.mlp_search.specs.Folded.{stepped, all_folded, top_of, all_symbol_bits, raised_sum}
+use Rattle.mlp_search.specs.Folded.{stepped, all_folded, top_of, all_symbol_bits}
 use Rattle.mlp_search.specs.Survey.{IsSurvey}
 use Rattle.mlp_search.specs.Given.{IsPair, fir_stays, iir_stays, fir_given, iir_given}
 use Rattle.mlp_search.specs.Cost.{fir_bits, iir_bits, is_offset, parameter_sum}
@@ -43,14 +43,12 @@ pub record IsSide (force : ChannelState) (step : ℕ) (t : Trial) (vs : List ℤ
   pub offset : is_offset step (map (stepped step) vs) s.offset ≡ true
   pub top : s.top ≡ top_of (all_folded s.offset vs)
   pub under : 2 ^ s.width ≤ 2 * s.top + 1
-  pub sum : s.sum ≤ raised_sum (all_folded s.offset vs)
   pub base : (c : Choice) → c.filter ≡ t.number → c.offset ≡ s.offset → s.base ≤ parameter_sum force t.pair c
   pub least : IsFewest vs s s.least
 
 -- its numbers are small enough to be added
 pub record IsSmall (s : Side) : Type 0 where
   pub base : s.base ≤ 65561
-  pub sum : s.sum < 2 ^ 32
   pub width : s.width ≤ 64
 
 -- both, the first for offset 0 and the second for the middle

@@ -26,27 +26,6 @@ pub(crate) fn moved(value: &i32, offset: i16) -> u32
     folded(*value - i32::from(offset))
 }
 
-/// Any value, folded.
-fn folded_far(x: i64) -> u64
-    requires low { neg_ℤ (pos (2 ^ 32)) ≤ℤ x }
-    requires high { x <ℤ pos (2 ^ 32) }
-    ensures value { result ≡ folded x }
-    ensures few { result < 2 ^ 34 }
-{
-    if x < 0 {
-        return (-1 - x - x).cast_unsigned();
-    }
-    (x + x).cast_unsigned()
-}
-
-/// Any value that is moved by an offset and folded.
-pub(crate) fn moved_far(value: i32, offset: i16) -> u64
-    ensures value { result ≡ folded (value -ℤ offset) }
-    ensures few { result < 2 ^ 34 }
-{
-    folded_far(i64::from(value) - i64::from(offset))
-}
-
 /// How many bits a symbol takes, of a folded value over 2^b.
 #[inline]
 pub(crate) fn symbol_bits<const BOOK: u8>(p: u32) -> u32

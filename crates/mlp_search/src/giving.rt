@@ -1,6 +1,8 @@
 //! What a choice writes.
 
 ghost use Rattle.std.specs.Prelude.{◌≡◌, ◌≤◌, length, All};
+ghost use Rattle.std.specs.Ordering.{int_eq};
+ghost use Rattle.std.specs.Cmp.Lexicographic.{pointwise};
 ghost use Rattle.mlp_arith.specs.Ranges.{Is26};
 ghost use Rattle.mlp_params.specs.States.{IsChannelState};
 ghost use Rattle.mlp_search.specs.Given.{IsPair, same_filter, fir_stays, iir_stays, with_zeros, fir_given, iir_given, offset_given, codes_alike, given, given_by};
@@ -11,6 +13,22 @@ use crate::reduction::zeros;
 use mlp_params::ChannelState;
 use mlp_syntax::{ChannelParams, Filter};
 
+/// Whether two lists of coefficients are the same, one after the other: there are few.
+#[inline(always)]
+fn same_coeffs(a: &[i32], b: &[i32]) -> bool
+    ensures { result ≡ pointwise int_eq a.now b.now }
+{
+    if a.len() != b.len() {
+        return false;
+    }
+    for i in 0..a.len() {
+        if a[i] != b[i] {
+            return false;
+        }
+    }
+    true
+}
+
 /// Whether two filters without a state are the same.
 #[inline(always)]
 fn same_filter(a: &Filter<8>, b: &Filter<8>) -> bool
@@ -19,7 +37,7 @@ fn same_filter(a: &Filter<8>, b: &Filter<8>) -> bool
     a.shift == b.shift
         && a.coeff_bits == b.coeff_bits
         && a.coeff_shift == b.coeff_shift
-        && a.coeffs.as_slice() == b.coeffs.as_slice()
+        && same_coeffs(a.coeffs.as_slice(), b.coeffs.as_slice())
 }
 
 /// Whether no FIR is written: that of filter 0, or one that is in force.

@@ -166,20 +166,27 @@ fn put_light<const M: usize>(coeffs: &[i32], shift: u8, whole: &[i32], values: &
 }
 
 /// Puts what `M` coefficients of 16 bits leave of the block.
-fn put_split<const M: usize>(coeffs: &[i32], shift: u8, line: &Line<'_>, values: &mut [i32])
+fn put_split<const M: usize>(
+    coeffs: &[i32],
+    shift: u8,
+    whole: &[i32],
+    high: &[i32],
+    low: &[i32],
+    values: &mut [i32],
+)
     requires few { M ≤ 8 }
     requires count { length coeffs.now ≡ M }
     requires small_coeffs { All IsCoefficient coeffs.now }
     requires least_shift { 13 ≤ shift }
     requires most_shift { shift < 16 }
-    requires small { All Is26 line.now.whole.now }
-    requires high_parts { line.now.high.now ≡ map (floor_by 13) line.now.whole.now }
-    requires low_parts { line.now.low.now ≡ map low_part line.now.whole.now }
-    requires room { length line.now.whole.now ≡ 8 + length values.old }
-    ensures { values.new ≡ left_in (alone_by coeffs.now shift) line.now.whole.now }
+    requires small { All Is26 whole.now }
+    requires high_parts { high.now ≡ map (floor_by 13) whole.now }
+    requires low_parts { low.now ≡ map low_part whole.now }
+    requires room { length whole.now ≡ 8 + length values.old }
+    ensures { values.new ≡ left_in (alone_by coeffs.now shift) whole.now }
 {
     let taps: [i32; M] = taps_of(coeffs);
-    reduce_split(&taps, shift, line.whole, line.high, line.low, values);
+    reduce_split(&taps, shift, whole, high, low, values);
 }
 
 /// Puts what at most 4 light coefficients leave of the block.
@@ -203,27 +210,34 @@ fn put_any_light(coeffs: &[i32], shift: u8, whole: &[i32], values: &mut [i32])
 
 /// Puts what at most 8 coefficients of 16 bits leave of the block.
 #[inline(never)]
-fn put_any_split(coeffs: &[i32], shift: u8, line: &Line<'_>, values: &mut [i32])
+fn put_any_split(
+    coeffs: &[i32],
+    shift: u8,
+    whole: &[i32],
+    high: &[i32],
+    low: &[i32],
+    values: &mut [i32],
+)
     requires few { length coeffs.now ≤ 8 }
     requires small_coeffs { All IsCoefficient coeffs.now }
     requires least_shift { 13 ≤ shift }
     requires most_shift { shift < 16 }
-    requires small { All Is26 line.now.whole.now }
-    requires high_parts { line.now.high.now ≡ map (floor_by 13) line.now.whole.now }
-    requires low_parts { line.now.low.now ≡ map low_part line.now.whole.now }
-    requires room { length line.now.whole.now ≡ 8 + length values.old }
-    ensures { values.new ≡ left_in (alone_by coeffs.now shift) line.now.whole.now }
+    requires small { All Is26 whole.now }
+    requires high_parts { high.now ≡ map (floor_by 13) whole.now }
+    requires low_parts { low.now ≡ map low_part whole.now }
+    requires room { length whole.now ≡ 8 + length values.old }
+    ensures { values.new ≡ left_in (alone_by coeffs.now shift) whole.now }
 {
     match coeffs.len() {
-        0 => put_split::<0>(coeffs, shift, line, values),
-        1 => put_split::<1>(coeffs, shift, line, values),
-        2 => put_split::<2>(coeffs, shift, line, values),
-        3 => put_split::<3>(coeffs, shift, line, values),
-        4 => put_split::<4>(coeffs, shift, line, values),
-        5 => put_split::<5>(coeffs, shift, line, values),
-        6 => put_split::<6>(coeffs, shift, line, values),
-        7 => put_split::<7>(coeffs, shift, line, values),
-        _ => put_split::<8>(coeffs, shift, line, values),
+        0 => put_split::<0>(coeffs, shift, whole, high, low, values),
+        1 => put_split::<1>(coeffs, shift, whole, high, low, values),
+        2 => put_split::<2>(coeffs, shift, whole, high, low, values),
+        3 => put_split::<3>(coeffs, shift, whole, high, low, values),
+        4 => put_split::<4>(coeffs, shift, whole, high, low, values),
+        5 => put_split::<5>(coeffs, shift, whole, high, low, values),
+        6 => put_split::<6>(coeffs, shift, whole, high, low, values),
+        7 => put_split::<7>(coeffs, shift, whole, high, low, values),
+        _ => put_split::<8>(coeffs, shift, whole, high, low, values),
     }
 }
 
@@ -267,7 +281,7 @@ fn reduce_by(coeffs: &[i32], shift: u8, line: &Line<'_>, values: &mut [i32]) -> 
     if shift < 13 {
         return false;
     }
-    put_any_split(coeffs, shift, line, values);
+    put_any_split(coeffs, shift, line.whole, line.high, line.low, values);
     true
 }
 

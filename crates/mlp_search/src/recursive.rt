@@ -9,7 +9,7 @@ ghost use Rattle.mlp_predict.specs.Prediction.{Past, residuals_of};
 ghost use Rattle.mlp_search.specs.declared.pair.Pair.{Pair};
 ghost use Rattle.mlp_search.specs.Candidates.{past_for, residuals_for};
 ghost use Rattle.mlp_search.specs.Folded.{stepped};
-ghost use Rattle.mlp_search.specs.Lines.{IsIn, halving, halved};
+ghost use Rattle.mlp_search.specs.Lines.{IsIn, halving, excesses};
 
 use crate::line::{Line, reduce_light};
 use crate::pair::PairRef;
@@ -65,18 +65,31 @@ fn left_by(step: u8, excess: i32) -> i32
     -whole_steps(step, excess)
 }
 
-/// Replaces rises of samples, in quantisation steps, by what predictions leave that have half of the excess before.
+/// Replaces rises of samples, in quantisation steps, by how far predictions are above their samples, which have half of
+/// the excess before.
 #[inline(always)]
 fn halve(step: u8, first: i32, values: &mut [i32])
     requires step { step ≤ 8 }
     requires first { unsigned_abs first ≤ 2 ^ 29 }
     requires rises { All (λ d. unsigned_abs d ≤ 2 ^ 28) (map (stepped step) values.old) }
-    ensures { values.new ≡ halved step first values.old }
+    ensures { values.new ≡ excesses step first values.old }
 {
     let mut excess = first;
     for i in 0..values.len() {
         excess = next_excess(step, excess, values[i]);
-        values[i] = left_by(step, excess);
+        values[i] = excess;
+    }
+}
+
+/// Replaces excesses of predictions by what these leave of their samples, in quantisation steps.
+#[inline(always)]
+fn put_left(step: u8, values: &mut [i32])
+    requires step { step ≤ 8 }
+    requires few { All (λ e. unsigned_abs e ≤ 2 ^ 29) values.old }
+    ensures { values.new ≡ map (λ e. neg_ℤ (floor_by step e)) values.old }
+{
+    for i in 0..values.len() {
+        values[i] = left_by(step, values[i]);
     }
 }
 
@@ -104,6 +117,7 @@ fn put_halved<const M: usize>(
 {
     reduce_light(taps, 0, line.whole, values);
     halve(step, excess, values);
+    put_left(step, values);
 }
 
 /// Whether an IIR takes half of the latest difference away, and no coefficients are shifted.

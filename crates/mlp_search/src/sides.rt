@@ -1,6 +1,6 @@
 //! The two offsets that the filters on trial are weighed with.
 
-ghost use Rattle.std.specs.Prelude.{◌≡◌, ℕ, List, ◌≤◌, ◌<◌, ◌+◌, ◌-◌, ◌*◌, ◌/◌, ◌^◌, length, map, true};
+ghost use Rattle.std.specs.Prelude.{◌≡◌, ℕ, ℤ, pos, neg_ℤ, List, ◌≤◌, ◌≤ℤ◌, ◌-ℤ◌, ◌*ℤ◌, ◌<◌, ◌+◌, ◌-◌, ◌*◌, ◌/◌, ◌^◌, length, map, true, unsigned_abs};
 ghost use Rattle.mlp_params.specs.declared.state.ChannelState.{ChannelState};
 ghost use Rattle.mlp_residual.specs.Coding.{symbols_of};
 ghost use Rattle.mlp_search.specs.declared.choice.Choice.{Choice};
@@ -9,7 +9,6 @@ ghost use Rattle.mlp_search.specs.Folded.{folded, stepped, all_folded, top_of, a
 ghost use Rattle.mlp_search.specs.Survey.{IsSurvey};
 ghost use Rattle.mlp_search.specs.Trial.{Writes, IsTrial, IsSide, IsSmall, AreSides};
 
-use crate::folds::moved_far;
 use crate::survey::Survey;
 use crate::trial::Trial;
 use mlp_params::ChannelState;
@@ -22,8 +21,6 @@ pub struct Side {
     pub top: u64,
     /// How many bits it has.
     pub width: u8,
-    /// No more than the sum of the folded values, each raised by 1.
-    pub sum: u64,
     /// No more than the bits of the parameters.
     pub base: u64,
     /// No more than the bits of parameters and codes in any of the three books, where all values have codes.
@@ -44,16 +41,32 @@ fn base_of(state: &ChannelState, trial: &Trial<'_>, offset: i16) -> u64
     11 + u64::from(trial.bits) + offset_bits
 }
 
-/// The greatest folded value.
-fn top_of(survey: &Survey, values: &[i32], offset: i16) -> u64
-    requires { IsSurvey values.now survey.now }
-    ensures value { result ≡ top_of (all_folded offset values.now) }
+/// Twice a value that is moved by an offset.
+fn twice_from(value: i32, offset: i16) -> i64
+    ensures value { result ≡ pos 2 *ℤ (value -ℤ offset) }
+    ensures few { unsigned_abs result ≤ 2 ^ 33 }
+{
+    2 * (i64::from(value) - i64::from(offset))
+}
+
+/// Twice how far a value that is moved by an offset is below 0, less 1.
+fn under_twice(value: i32, offset: i16) -> i64
+    ensures value { result ≡ neg_ℤ (pos 1) -ℤ pos 2 *ℤ (value -ℤ offset) }
+    ensures few { unsigned_abs result ≤ 2 ^ 33 + 1 }
+{
+    -1 - twice_from(value, offset)
+}
+
+/// The greatest folded value: that of the greatest value, where it is positive, or that of the least, where it is negative.
+fn top_of(survey: &Survey, offset: i16) -> u64
+    requires { survey.now.least ≤ℤ survey.now.greatest }
+    ensures value { (vs : List ℤ) → IsSurvey vs survey.now → (length vs ≡ 0 → offset ≡ pos 0) →
+        result ≡ top_of (all_folded offset vs) }
     ensures few { result < 2 ^ 34 }
 {
-    if values.is_empty() {
-        return 0;
-    }
-    moved_far(survey.least, offset).max(moved_far(survey.greatest, offset))
+    let above = twice_from(survey.greatest, offset);
+    let below = under_twice(survey.least, offset);
+    above.max(below).cast_unsigned()
 }
 
 /// How many bits a number has.
@@ -98,16 +111,24 @@ fn sum_of(survey: &Survey, values: &[i32], offset: i16) -> u64
     moved_sum(sum, far, 2 * negatives, count)
 }
 
-/// No more than twice the bits of `count` codes, where the folded values, each raised by 1, have at least this sum: by the
-/// low bits of books 2 and 3, or by one more than those of book 1.
-pub(crate) fn twice_bits(sum: u64, count: u64, power: u64) -> u64
+/// No more than twice the bits of `count` codes, where the folded values, each raised by 1, have at least this sum: by a
+/// power, by 1 more and by 2 more. It is that of the low bits of books 2 and 3, or 1 more than of those of book 1.
+fn least_twice(sum: u64, count: u64, power: u64) -> u64
     requires sum { sum < 2 ^ 32 }
     requires few { count ≤ 160 }
-    requires power { power < 64 }
-    ensures value { result ≡ (2 * power + 1) * count + sum / 2 ^ power }
+    requires power { power ≤ 60 }
+    ensures first { result ≤ (2 * power + 1) * count + sum / 2 ^ power }
+    ensures second { result ≤ (2 * (power + 1) + 1) * count + sum / 2 ^ (power + 1) }
+    ensures third { result ≤ (2 * (power + 2) + 1) * count + sum / 2 ^ (power + 2) }
     ensures few { result < 2 ^ 33 }
 {
-    (2 * power + 1) * count + (sum >> power)
+    let whole = sum >> power;
+    let first = (2 * power + 1) * count;
+    let second = first + 2 * count;
+    let third = first + 4 * count;
+    (first + whole)
+        .min(second + whole / 2)
+        .min(third + whole / 4)
 }
 
 /// No more than the bits of `count` codes in any of the three books, by the width of the greatest folded value: they are
@@ -122,10 +143,7 @@ fn least_bits(sum: u64, count: u64, width: u8) -> u64
     ensures few { result < 2 ^ 33 }
 {
     let power = u64::from(width).saturating_sub(4);
-    let first = twice_bits(sum, count, power);
-    let second = twice_bits(sum, count, power + 1);
-    let third = twice_bits(sum, count, power + 2);
-    let twice = first.min(second).min(third);
+    let twice = least_twice(sum, count, power);
     let uncoded = count * u64::from(width);
     uncoded.min((twice + 1) / 2)
 }
@@ -147,7 +165,7 @@ pub(crate) fn side_of(
     ensures offset { result.offset ≡ offset }
     ensures small { IsSmall result }
 {
-    let top = top_of(&trial.survey, values, offset);
+    let top = top_of(&trial.survey, offset);
     let width = width_of(top);
     let sum = sum_of(&trial.survey, values, offset);
     let base = base_of(state, trial, offset);
@@ -156,7 +174,6 @@ pub(crate) fn side_of(
         offset,
         top,
         width,
-        sum,
         base,
         least: base + codes,
     }

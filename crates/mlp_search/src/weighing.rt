@@ -5,14 +5,14 @@ ghost use Rattle.std.specs.Int.{w32};
 ghost use Rattle.std.specs.List.{flat_map, range_with_len};
 ghost use Rattle.mlp_residual.specs.Coding.{symbols_of};
 ghost use Rattle.mlp_search.specs.Cost.{in_range, is_offset, most_low, cost_over};
-ghost use Rattle.mlp_search.specs.Folded.{stepped, symbol_bits, all_folded, top_of, all_symbol_bits, raised_sum};
+ghost use Rattle.mlp_search.specs.Folded.{stepped, symbol_bits, all_folded, top_of};
 ghost use Rattle.mlp_search.specs.Least.{is_better, better, least_from, choice_of, with_offsets, with_lows, with_books};
 ghost use Rattle.mlp_search.specs.Tally.{IsTally, AreTallies};
 ghost use Rattle.mlp_search.specs.Trial.{Writes, IsTrial, IsFewest, IsSide, IsSmall, AreSides};
 
 use crate::choice::Choice;
 use crate::costs::{most_low, parameter_sum};
-use crate::sides::{Side, Sides, sides_of, twice_bits};
+use crate::sides::{Side, Sides, sides_of};
 use crate::tally::{Tallies, Tally, fewest, symbols, tally_side};
 use crate::trial::Trial;
 use mlp_params::ChannelState;
@@ -52,25 +52,6 @@ fn symbols_of(book: u8) -> u64
         2 => 16,
         _ => 15,
     }
-}
-
-/// No more than the bits of parameters and codes, of values that are moved by an offset.
-fn fewest_bits(side: &Side, book: u8, b: u8, count: u64) -> u64
-    requires book { book ≤ 3 }
-    requires b { b < 32 }
-    requires few { count ≤ 160 }
-    requires base { side.now.base ≤ 65561 }
-    requires sum { side.now.sum < 2 ^ 32 }
-    ensures { (us : List ℕ) → length us ≡ count → side.now.sum ≤ raised_sum us →
-        result ≤ side.now.base + length us * b + all_symbol_bits book b us }
-{
-    let low_bits = u64::from(b);
-    if book == 0 {
-        return side.base + count * low_bits;
-    }
-    let power = if book == 1 { low_bits + 1 } else { low_bits };
-    let twice = twice_bits(side.sum, count, power);
-    side.base + (twice + 1) / 2
 }
 
 pub(crate) fn choice_of(filter: u8, book: u8, low: u8, offset: i16) -> Choice
@@ -141,11 +122,12 @@ fn tried(
         ≡ better best c
         (cost_over state.now step true trial.now.pair (map (stepped step) values.now) c) }
 {
-    let b = low - step;
-    if side.top >> b >= symbols_of(book) {
-        return best;
+    if book > 0 {
+        if !is_better(side.least, best) {
+            return best;
+        }
     }
-    if !is_better(fewest_bits(side, book, b, values.len() as u64), best) {
+    if side.top >> (low - step) >= symbols_of(book) {
         return best;
     }
     let choice = choice_of(trial.number, book, low, side.offset);
@@ -288,6 +270,20 @@ fn counted_least(side: &Side, tally: &Tally, values: &[i32]) -> u64
     side.base + uncoded.min(fewest(tally, count))
 }
 
+/// The same side, with another bound for the three books.
+#[inline(always)]
+fn with_least(side: &Side, least: u64) -> Side
+    ensures { result ≡ record side.now { least = least } }
+{
+    Side {
+        offset: side.offset,
+        top: side.top,
+        width: side.width,
+        base: side.base,
+        least,
+    }
+}
+
 /// No more than the bits of parameters and codes in any of the three books.
 fn side_least(side: &Side, tally: &Option<Tally>, values: &[i32]) -> u64
     requires few { length values.now ≤ 160 }
@@ -305,9 +301,9 @@ fn side_least(side: &Side, tally: &Option<Tally>, values: &[i32]) -> u64
     }
 }
 
-/// The best so far, with the choices of the three books.
+/// The best so far, with the choices of the three books, by counts of all values.
 #[inline(always)]
-fn with_codebooks(
+fn with_counted(
     state: &ChannelState,
     step: u8,
     trial: &Trial<'_>,
@@ -324,9 +320,6 @@ fn with_codebooks(
         ≡ least_from (cost_over state.now step true t.pair (map (stepped step) values.now)) best
         (flat_map (with_lows t.number t.middle) (range_with_len 1 3)) }
 {
-    if !is_better(sides.zero.least.min(sides.middle.least), best) {
-        return best;
-    }
     let tallies = Tallies {
         zero: tally_side(values, &sides.zero, is_better(sides.zero.least, best)),
         middle: tally_side(values, &sides.middle, is_better(sides.middle.least, best)),
@@ -336,10 +329,39 @@ fn with_codebooks(
     if !is_better(zero.min(middle), best) {
         return best;
     }
+    let counted = Sides {
+        zero: with_least(&sides.zero, zero),
+        middle: with_least(&sides.middle, middle),
+    };
     for book in 1..4 {
-        best = with_lows(state, step, trial, sides, &tallies, values, best, book);
+        best = with_lows(state, step, trial, &counted, &tallies, values, best, book);
     }
     best
+}
+
+/// The best so far, with the choices of the three books.
+#[inline(always)]
+fn with_codebooks(
+    state: &ChannelState,
+    step: u8,
+    trial: &Trial<'_>,
+    sides: &Sides,
+    values: &[i32],
+    best: Option<Choice>,
+) -> Option<Choice>
+    requires step { step ≤ 8 }
+    requires writes { Writes state.now trial.now }
+    requires few { length values.now ≤ 160 }
+    requires words { All (FitsSigned w32) (map (stepped step) values.now) }
+    requires sides { AreSides state.now step trial.now values.now sides.now }
+    ensures { let t = trial.now in result
+        ≡ least_from (cost_over state.now step true t.pair (map (stepped step) values.now)) best
+        (flat_map (with_lows t.number t.middle) (range_with_len 1 3)) }
+{
+    if !is_better(sides.zero.least.min(sides.middle.least), best) {
+        return best;
+    }
+    with_counted(state, step, trial, sides, values, best)
 }
 
 /// The best so far, with the choices of the filters on trial.

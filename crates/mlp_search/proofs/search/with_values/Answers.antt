@@ -1,4 +1,4 @@
-use Rattle.std.proofs.Common.{◌≡◌, ℕ, ℤ, List, true, map, ap, ◌∙◌}
+use Rattle.std.proofs.Common.{ℕ, ℤ, List, true, map, ap, ◌∙◌}
 use Rattle.mlp_search.specs.declared.pair.Pair.{Pair}
 use Rattle.mlp_search.specs.Candidates.{middle_of}
 use Rattle.mlp_search.specs.Cost.{cost_over}
