@@ -1,5 +1,5 @@
 //! Raw PCM: frames one after the other, channels in order, samples little-endian and signed.
-ghost use Rattle.std.specs.Prelude.{◌≡◌, ◌⊎◌, ◌++◌, ◌+◌, ◌*◌, ◌%◌, ◌/◌, ◌^◌, ◌≤◌, ◌<◌, ◌&&◌, ◌==◌, not, take, drop, length, IfErr, OnOk, OnErr, IsTrue, []};
+ghost use Rattle.std.specs.Prelude.{◌≡◌, ◌⊎◌, ◌++◌, ◌∷◌, ◌+◌, ◌*◌, ◌%◌, ◌/◌, ◌^◌, ◌≤◌, ◌<◌, ◌&&◌, ◌==◌, not, take, drop, length, IfErr, OnOk, OnErr, IsTrue, []};
 ghost use Rattle.std.specs.List.{list_all, flat_map};
 ghost use Rattle.arrayvec.specs.ArrayVec.{array_vec_len};
 ghost use Rattle.mlp_pcm.specs.Samples.{sample_in, row_in, is_clear, are_clear, IsFirstFailing, AreUnpacked, AreUnpackedTo, IsForm, sample_bytes, packed, is_packable, Packs};
@@ -63,7 +63,23 @@ fn all_clear(samples: &[i32], depth: u8) -> bool
     samples.iter().all(|sample| clear(*sample, depth))
 }
 
-/// Puts the frames of these bytes into `out`, which has none,
+/// Puts a row at a place, over the one that is there or behind the last one.
+#[inline]
+fn put_row(row: [i32; 8], place: usize, rows: &mut ArrayVec<[i32; 8], 160>)
+    requires within { place ≤ array_vec_len rows.old }
+    requires most { place < 160 }
+    ensures front { take (place + 1) rows.new.items ≡ take place rows.old.items ++ row ∷ [] }
+    ensures there { place + 1 ≤ array_vec_len rows.new }
+{
+    if place == rows.len() {
+        rows.push(row);
+        return;
+    }
+    let there = rows.as_mut_slice();
+    there[place] = row;
+}
+
+/// Replaces the rows of `out` by the frames of these bytes,
 /// up to the first that has a sample whose low bits aren't 0.
 #[inline]
 #[tactic(auto, unfolding(crate::specs::Samples::pieces))]
@@ -77,7 +93,6 @@ fn unpack_frames(
     requires form { IsForm width depth }
     requires channels { (1 ≤ channels) × (channels ≤ 8) }
     requires few { length bytes.now / (channels * width) ≤ 160 }
-    requires empty { out.old.rows.items ≡ [] }
     ensures channels { out.new.channels ≡ out.old.channels }
     ensures ok { OnOk result (AreUnpacked width depth channels bytes.now out.new.rows.items) }
     ensures err { IfErr result (AreUnpackedTo width depth channels bytes.now out.new.rows.items) }
@@ -88,11 +103,13 @@ fn unpack_frames(
     for frame in 0..count {
         let row = row(rest, width, channels);
         if !all_clear(&row, depth) {
+            out.rows.truncate(frame);
             return Err(frame as u32);
         }
-        out.rows.push(row);
+        put_row(row, frame, &mut out.rows);
         rest = behind(rest, size);
     }
+    out.rows.truncate(count);
     Ok(())
 }
 
@@ -108,7 +125,6 @@ fn unpack_channels(
     requires form { IsForm width depth }
     requires channels { (1 ≤ channels) × (channels ≤ 8) }
     requires few { length bytes.now / (channels * width) ≤ 160 }
-    requires empty { out.old.rows.items ≡ [] }
     ensures channels { out.new.channels ≡ out.old.channels }
     ensures ok { OnOk result (AreUnpacked width depth channels bytes.now out.new.rows.items) }
     ensures err { IfErr result (AreUnpackedTo width depth channels bytes.now out.new.rows.items) }
@@ -136,7 +152,6 @@ pub fn unpack(bytes: &[u8], width: u8, depth: u8, channels: u8, out: &mut Frames
     ensures err { IfErr result (AreUnpackedTo width depth channels bytes.now out.new.rows.items) }
 {
     out.channels = channels;
-    out.rows.clear();
     match (width, depth) {
         (2, _) => unpack_channels(bytes, 2, 16, channels, out),
         (_, 20) => unpack_channels(bytes, 3, 20, channels, out),
