@@ -61,8 +61,8 @@ fn restore_alone<const M: usize>(fir: &[i32; M], shift: u8, step: u8, outputs: &
         ++ outputs_of (filters_in fir.now [] shift) (past_in (take 16 outputs.old) []) step (drop 16 outputs.old) }
 {
     let count = outputs.len() - 16;
-    // Few coefficients stay in registers with the latest outputs: four samples at a time.
-    let runs = if M > 4 { 0 } else { count / 4 };
+    // Four coefficients stay in registers with the latest outputs: four samples at a time.
+    let runs = if M == 4 { count / 4 } else { 0 };
     for i in 0..runs {
         restore_run(fir, shift, step, outputs, i * 4, 4);
     }
