@@ -95,7 +95,8 @@ all_fit book b step m (v ∷ vs) h =
     in
     ap (λ (o : Option ℕ). sum_of o (bits_for book b m step (map (stepped step) vs))) (value_told book b step m v ∙ told_some book b (folded (v -ℤ m) / 2 ^ b) here)
     ∙ ap (sum_of (Some (b + symbol_bits book (folded (v -ℤ m) / 2 ^ b)))) (all_fit book b step m vs later)
-    ∙ ap Some (let e : b + symbol_bits book (folded (v -ℤ m) / 2 ^ b) + (length vs * b + all_symbol_bits book b (all_folded m vs)) ≡ suc (length vs) * b + (symbol_bits book (folded (v -ℤ m) / 2 ^ b) + all_symbol_bits book b (all_folded m vs)) = omega arith in e)
+    ∙ ap Some (let e : b + symbol_bits book (folded (v -ℤ m) / 2 ^ b) + (length vs * b + all_symbol_bits book b (all_folded m vs))
+    ≡ suc (length vs) * b + (symbol_bits book (folded (v -ℤ m) / 2 ^ b) + all_symbol_bits book b (all_folded m vs)) = omega arith in e)
 
 -- ---- at least
 
@@ -161,7 +162,8 @@ fewest_codes book b sum us le =
     let d = 2 ^ bound_of (suc book) b in
     let all = all_bound book b us in
     let under : sum / 2 ^ bound_of (suc book) b * 2 ^ bound_of (suc book) b ≤ sum = div-mul-le_self sum (2 ^ bound_of (suc book) b) in
-    let less : ((2 * bound_of (suc book) b + 1) * length us + sum / 2 ^ bound_of (suc book) b) * 2 ^ bound_of (suc book) b ≤ 2 * (length us * b + all_symbol_bits (suc book) b us) * 2 ^ bound_of (suc book) b = omega (arith, all, under, le) in
+    let less : ((2 * bound_of (suc book) b + 1) * length us + sum / 2 ^ bound_of (suc book) b) * 2 ^ bound_of (suc book) b
+    ≤ 2 * (length us * b + all_symbol_bits (suc book) b us) * 2 ^ bound_of (suc book) b = omega (arith, all, under, le) in
     le_of_mul-le-mul_right less (pow_pos (bound_of (suc book) b))
 
 -- .. of any of the three books

@@ -1,5 +1,6 @@
 -- What filters without an IIR leave of a line fits 32 bits, and is what they leave of the block.
-use Rattle.std.proofs.Common.{◌≡◌, ℕ, zero, suc, ◌+◌, ◌-◌, ◌*◌, ◌/◌, ◌^◌, ◌<◌, ◌≤◌, ℤ, pos, negsuc, ◌-ℤ◌, ◌*ℤ◌, Bool, true, false, List, [], ◌∷◌, ◌++◌, length, take, drop, map, get_or, reverse, replicate, arith, refl, sym, ◌∙◌, ap, subst, w32}
+use Rattle.std.proofs.Common.{◌≡◌, ℕ, zero, suc, ◌+◌, ◌-◌, ◌*◌, ◌/◌, ◌^◌, ◌<◌, ◌≤◌, ℤ, pos, negsuc, ◌-ℤ◌, ◌*ℤ◌, Bool, true}
+use Rattle.std.proofs.Common.{false, List, [], ◌∷◌, ◌++◌, length, take, drop, map, get_or, reverse, replicate, arith, refl, sym, ◌∙◌, ap, subst, w32}
 use Rattle.std.specs.Prelude.{All, FitsSigned, unsigned_abs, ◌==◌, if◌then◌else◌}
 use Rattle.std.proofs.Math.Nat.{mul-le-mul_right, mul-le-mul_left, div-mul-le_self, pow-le-pow_right}
 use Rattle.std.proofs.Math.Pow.{pow_pos}

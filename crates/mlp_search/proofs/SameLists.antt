@@ -12,9 +12,6 @@ differ xs ys other = pick (pointwise int_eq xs ys) refl
     pick true e = absurd (other ((pointwise_decides Decides-int_eq xs ys).0 e))
     pick false e = refl
 
-pub other_length : (xs ys : List ℤ) → (length xs ≡ length ys → ⊥) → false ≡ pointwise int_eq xs ys
-other_length xs ys other = differ xs ys (λ e. other (ap (λ (zs : List ℤ). length zs) e))
-
 pub other_item : (xs ys : List ℤ) (i : ℕ) → (get_or xs i (pos 0) ≡ get_or ys i (pos 0) → ⊥) → false ≡ pointwise int_eq xs ys
 other_item xs ys i other = differ xs ys (λ e. other (ap (λ (zs : List ℤ). get_or zs i (pos 0)) e))
 

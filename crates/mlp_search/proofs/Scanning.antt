@@ -106,11 +106,13 @@ pub scan_more_behind : (cost : Choice → Option ℕ) (f : ℕ → List Choice) 
 scan_more_behind cost f start best next n some e is = scan_more_from cost f start best next 1 n some e is
 
 -- the first number, and those behind it
-pub scan_joined : (cost : Choice → Option ℕ) (f : ℕ → List Choice) (start first best : Option Choice) (n : ℕ) → first ≡ least_from cost start (f 0) → best ≡ least_from cost first (flat_map f (range_with_len 1 n)) → best ≡ least_from cost start (flat_map f (range_with_len 0 (suc n)))
+pub scan_joined : (cost : Choice → Option ℕ) (f : ℕ → List Choice) (start first best : Option Choice) (n : ℕ) → first ≡ least_from cost start (f 0) → best ≡ least_from cost first (flat_map f (range_with_len 1 n))
+    → best ≡ least_from cost start (flat_map f (range_with_len 0 (suc n)))
 scan_joined cost f start first best n e is = is ∙ ap (λ (b : Option Choice). least_from cost b (flat_map f (range_with_len 1 n))) e ∙ sym (least_from-append cost start (f 0) (flat_map f (range_with_len 1 n)))
 
 -- two scans one behind the other
-pub scan_continued : (cost : Choice → Option ℕ) (f : ℕ → List Choice) (start first best : Option Choice) (a m n : ℕ) → first ≡ least_from cost start (flat_map f (range_with_len a m)) → best ≡ least_from cost first (flat_map f (range_with_len (a + m) n))
+pub scan_continued : (cost : Choice → Option ℕ) (f : ℕ → List Choice) (start first best : Option Choice) (a m n : ℕ) → first ≡ least_from cost start (flat_map f (range_with_len a m))
+    → best ≡ least_from cost first (flat_map f (range_with_len (a + m) n))
     → best ≡ least_from cost start (flat_map f (range_with_len a (m + n)))
 scan_continued cost f start first best a m n e is =
     is
@@ -119,7 +121,8 @@ scan_continued cost f start first best a m n e is =
     ∙ ap (least_from cost start) (sym (range_parts f a m n))
 
 -- a scan from a number on that has come to its end
-pub scan_ends : (cost : Choice → Option ℕ) (f : ℕ → List Choice) (start best : Option Choice) (a n m : ℕ) → n ≡ a + m → best ≡ least_from cost start (flat_map f (range_with_len a (n - a))) → best ≡ least_from cost start (flat_map f (range_with_len a m))
+pub scan_ends : (cost : Choice → Option ℕ) (f : ℕ → List Choice) (start best : Option Choice) (a n m : ℕ) → n ≡ a + m → best ≡ least_from cost start (flat_map f (range_with_len a (n - a)))
+    → best ≡ least_from cost start (flat_map f (range_with_len a m))
 scan_ends cost f start best a n m same e = let count : n - a ≡ m = omega (arith, same) in e ∙ ap (λ (k : ℕ). least_from cost start (flat_map f (range_with_len a k))) count
 
 -- the first number alone

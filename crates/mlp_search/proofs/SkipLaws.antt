@@ -102,7 +102,8 @@ module _ (force : ChannelState) (past : Past) (step : ℕ) (samples : List ℤ) 
 module _ (force : ChannelState) (past : Past) (step : ℕ) (samples : List ℤ) (n : ℕ) (pair : Pair) (s : IsChannelState force) (there : pair_of force step samples n ≡ Some pair) where
   -- what is written where some filter is
   written : (c : Choice) → c.filter ≡ n → (fir_stays force n pair && iir_stays force n pair) ≡ false → 11 + (fir_bits (fir_given force n pair) + iir_bits (iir_given force n pair)) ≤ parameter_sum force pair c
-  written c e some = subst (λ (m : ℕ). 11 + (fir_bits (fir_given force m pair) + iir_bits (iir_given force m pair)) ≤ parameter_sum force pair c) e (at (subst (λ (m : ℕ). (fir_stays force m pair && iir_stays force m pair) ≡ false) (sym e) some))
+  written c e some = subst (λ (m : ℕ). 11 + (fir_bits (fir_given force m pair) + iir_bits (iir_given force m pair)) ≤ parameter_sum force pair c) e
+      (at (subst (λ (m : ℕ). (fir_stays force m pair && iir_stays force m pair) ≡ false) (sym e) some))
     where
       at : (fir_stays force c.filter pair && iir_stays force c.filter pair) ≡ false → 11 + (fir_bits (fir_given force c.filter pair) + iir_bits (iir_given force c.filter pair)) ≤ parameter_sum force pair c
       at is =

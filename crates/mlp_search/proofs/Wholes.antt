@@ -10,8 +10,12 @@ use Rattle.mlp_residual.proofs.Codes.{clear_whole}
 
 whole_less : (step : ℕ) (x p : ℤ) → clear step x ≡ x → clear step (x -ℤ clear step p) ≡ x -ℤ clear step p
 whole_less step x p e =
-    let both : (floor_by step x -ℤ floor_by step p +ℤ floor_by step p) *ℤ pos (2 ^ step) ≡ (floor_by step x -ℤ floor_by step p) *ℤ pos (2 ^ step) +ℤ clear step p = add-mul (floor_by step x -ℤ floor_by step p) (floor_by step p) (pos (2 ^ step)) in
-    let whole : (floor_by step x -ℤ floor_by step p +ℤ floor_by step p) *ℤ pos (2 ^ step) ≡ x = ap (λ (z : ℤ). z *ℤ pos (2 ^ step)) (let s : floor_by step x -ℤ floor_by step p +ℤ floor_by step p ≡ floor_by step x = omega (arith, ints) in s) ∙ e in
+    let both : (floor_by step x -ℤ floor_by step p +ℤ floor_by step p) *ℤ pos (2 ^ step) ≡ (floor_by step x -ℤ floor_by step p) *ℤ pos (2 ^ step) +ℤ clear step p =
+    add-mul (floor_by step x -ℤ floor_by step p) (floor_by step p) (pos (2 ^ step))
+    in
+    let whole : (floor_by step x -ℤ floor_by step p +ℤ floor_by step p) *ℤ pos (2 ^ step) ≡ x =
+    ap (λ (z : ℤ). z *ℤ pos (2 ^ step)) (let s : floor_by step x -ℤ floor_by step p +ℤ floor_by step p ≡ floor_by step x = omega (arith, ints) in s) ∙ e
+    in
     let steps : (floor_by step x -ℤ floor_by step p) *ℤ pos (2 ^ step) ≡ x -ℤ clear step p = omega (arith, ints, both, whole) in
     clear_whole step (floor_by step x -ℤ floor_by step p) (x -ℤ clear step p) steps
 

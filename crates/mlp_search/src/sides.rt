@@ -57,7 +57,8 @@ fn under_twice(value: i32, offset: i16) -> i64
     -1 - twice_from(value, offset)
 }
 
-/// The greatest folded value: that of the greatest value, where it is positive, or that of the least, where it is negative.
+/// The greatest folded value: that of the greatest value, where that is positive, or that of the least, where that is
+/// negative.
 fn top_of(survey: &Survey, offset: i16) -> u64
     requires { survey.now.least ≤ℤ survey.now.greatest }
     ensures value { (vs : List ℤ) → IsSurvey vs survey.now → (length vs ≡ 0 → offset ≡ pos 0) →

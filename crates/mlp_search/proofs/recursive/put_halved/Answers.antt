@@ -43,6 +43,7 @@ returns-clause-value g c =
 
 pub returns-clause-fits : goal.returns-clause-fits
 returns-clause-fits g c =
-    subst (λ (vs : List ℤ). All (FitsSigned w32) (map (stepped c.args.step) vs)) (sym (left c.args.step c.args.excess c.put_left.new.values c.halve.new.values c.reduce_light.new.values _ c.ranges.excess c.halve.ensures c.reduce_light.ensures c.put_left.ensures))
+    subst (λ (vs : List ℤ). All (FitsSigned w32) (map (stepped c.args.step) vs))
+    (sym (left c.args.step c.args.excess c.put_left.new.values c.halve.new.values c.reduce_light.new.values _ c.ranges.excess c.halve.ensures c.reduce_light.ensures c.put_left.ensures))
     (halved_fits c.args.step c.args.excess (left_in (alone_by (reverse c.args.taps.now) 0) c.args.line.now.whole.now) c.requires.step c.requires.excess
     (rises c.args.taps.now c.args.line.now.whole.now c.args.step (omega arith) c.requires.light c.requires.small))

@@ -13,7 +13,8 @@ returns-in-Some-clause-residuals c =
     let pair : Pair = c.in-Some.pair in
     let there : pair_of c.args.state.now c.args.step c.args.samples.now c.args.choice.now.filter ≡ Some pair = sym c.in-Some.ensures.value in
     let words = words_there c.args.state.now c.args.history.now c.args.step true c.args.samples.now c.args.choice.now pair c.requires.costs there in
-    let seen = subst (λ (p : Past). All (FitsSigned w32) (residuals_of (filters_of pair.fir pair.iir) p c.args.step c.args.samples.now)) (sym (c.put_state.ensures ∙ ap (λ (p : Pair). past_for c.args.choice.now.filter p c.args.history.now) c.view.ensures)) words in
+    let seen = subst (λ (p : Past). All (FitsSigned w32) (residuals_of (filters_of pair.fir pair.iir) p c.args.step c.args.samples.now))
+    (sym (c.put_state.ensures ∙ ap (λ (p : Pair). past_for c.args.choice.now.filter p c.args.history.now) c.view.ensures)) words in
     let is = c.reduce_block-fit.ensures.values (c.reduce_block-fit.ensures.fit.1 seen) in
     ap (option_map (residuals_for c.args.history.now c.args.step c.args.samples.now c.args.choice.now.filter)) there
     ∙ ap Some (sym (is ∙ ap (λ (p : Past). residuals_of (filters_of pair.fir pair.iir) p c.args.step c.args.samples.now) (c.put_state.ensures ∙ ap (λ (p : Pair). past_for c.args.choice.now.filter p c.args.history.now) c.view.ensures)))
@@ -23,7 +24,8 @@ returns-in-Some-clause-past c =
     let pair : Pair = c.in-Some.pair in
     let there : pair_of c.args.state.now c.args.step c.args.samples.now c.args.choice.now.filter ≡ Some pair = sym c.in-Some.ensures.value in
     let words = words_there c.args.state.now c.args.history.now c.args.step true c.args.samples.now c.args.choice.now pair c.requires.costs there in
-    let seen = subst (λ (p : Past). All (FitsSigned w32) (residuals_of (filters_of pair.fir pair.iir) p c.args.step c.args.samples.now)) (sym (c.put_state.ensures ∙ ap (λ (p : Pair). past_for c.args.choice.now.filter p c.args.history.now) c.view.ensures)) words in
+    let seen = subst (λ (p : Past). All (FitsSigned w32) (residuals_of (filters_of pair.fir pair.iir) p c.args.step c.args.samples.now))
+    (sym (c.put_state.ensures ∙ ap (λ (p : Pair). past_for c.args.choice.now.filter p c.args.history.now) c.view.ensures)) words in
     let is = c.reduce_block-fit.ensures.past (c.reduce_block-fit.ensures.fit.1 seen) in
     ap (option_map (past_behind c.args.history.now c.args.samples.now c.args.choice.now.filter)) there
     ∙ ap Some (sym (is ∙ ap (λ (p : Past). latest 8 4 (past_of (filters_of pair.fir pair.iir) p c.args.samples.now)) (c.put_state.ensures ∙ ap (λ (p : Pair). past_for c.args.choice.now.filter p c.args.history.now) c.view.ensures)))

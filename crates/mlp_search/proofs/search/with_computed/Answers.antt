@@ -12,7 +12,8 @@ use Rattle.mlp_search.proofs.search.with_computed.Goals as goal
 pub returns-then-place-computed : goal.returns-then-place-computed
 returns-then-place-computed c =
     let past : length c.args.computed.now ≤ c.args.number - 10 = omega arith in
-    let none = computed_pair c.args.state.now c.args.step c.args.samples.now c.args.computed.now c.args.number (omega arith) (omega arith) c.requires.computed ∙ ap (option_map alone) (slice_get_past c.args.computed.now (c.args.number - 10) past) in
+    let none = computed_pair c.args.state.now c.args.step c.args.samples.now c.args.computed.now c.args.number (omega arith) (omega arith) c.requires.computed
+    ∙ ap (option_map alone) (slice_get_past c.args.computed.now (c.args.number - 10) past) in
     sym (nothing_there c.args.state.now c.args.history.now c.args.step true c.args.samples.now c.args.number
     (middle_for c.args.state.now c.args.history.now c.args.step c.args.samples.now c.args.number) c.args.best none)
 

@@ -8,10 +8,13 @@ use Rattle.mlp_search.proofs.search.with_table.Goals as goal
 
 pub loop-number-preserved : goal.loop-number-preserved
 loop-number-preserved c =
-    scan_more_from (cost_of c.args.state.now c.args.history.now c.args.step true c.args.samples.now) (λ n. with_books n (middle_for c.args.state.now c.args.history.now c.args.step c.args.samples.now n)) c.args.best c.loop-number.best c.with_any_entry-best.result 1 c.loop-number.number (omega arith) c.loop-number.invariant c.with_any_entry-best.ensures
+    scan_more_from (cost_of c.args.state.now c.args.history.now c.args.step true c.args.samples.now) (λ n. with_books n (middle_for c.args.state.now c.args.history.now c.args.step c.args.samples.now n))
+    c.args.best c.loop-number.best c.with_any_entry-best.result 1 c.loop-number.number (omega arith) c.loop-number.invariant c.with_any_entry-best.ensures
 
 pub with_any_entry-best-requires-clause-first : goal.with_any_entry-best-requires-clause-first
-with_any_entry-best-requires-clause-first c = still_within (cost_of c.args.state.now c.args.history.now c.args.step true c.args.samples.now) c.args.best c.loop-number.best (flat_map (λ n. with_books n (middle_for c.args.state.now c.args.history.now c.args.step c.args.samples.now n)) (range_with_len 1 (c.loop-number.number - 1))) c.loop-number.invariant c.requires.first
+with_any_entry-best-requires-clause-first c = still_within (cost_of c.args.state.now c.args.history.now c.args.step true c.args.samples.now) c.args.best c.loop-number.best
+    (flat_map (λ n. with_books n (middle_for c.args.state.now c.args.history.now c.args.step c.args.samples.now n)) (range_with_len 1 (c.loop-number.number - 1))) c.loop-number.invariant c.requires.first
 
 pub returns : goal.returns
-returns c = scan_ends (cost_of c.args.state.now c.args.history.now c.args.step true c.args.samples.now) (λ n. with_books n (middle_for c.args.state.now c.args.history.now c.args.step c.args.samples.now n)) c.args.best c.loop-number.best 1 c.loop-number.number 9 (omega arith) c.loop-number.invariant
+returns c = scan_ends (cost_of c.args.state.now c.args.history.now c.args.step true c.args.samples.now) (λ n. with_books n (middle_for c.args.state.now c.args.history.now c.args.step c.args.samples.now n))
+    c.args.best c.loop-number.best 1 c.loop-number.number 9 (omega arith) c.loop-number.invariant

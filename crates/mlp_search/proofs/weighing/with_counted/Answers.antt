@@ -9,19 +9,22 @@ use Rattle.mlp_search.proofs.weighing.with_counted.Goals as goal
 
 pub returns-then-not-is_better : goal.returns-then-not-is_better
 returns-then-not-is_better c =
-    books_kept c.args.state.now c.args.step c.args.trial.now c.args.values.now c.requires.writes c.args.sides.now.zero c.args.sides.now.middle c.requires.sides.zero c.requires.sides.middle c.requires.sides.at_zero c.requires.sides.at_middle c.min.result
+    books_kept c.args.state.now c.args.step c.args.trial.now c.args.values.now c.requires.writes c.args.sides.now.zero c.args.sides.now.middle c.requires.sides.zero c.requires.sides.middle
+    c.requires.sides.at_zero c.requires.sides.at_middle c.min.result
     c.side_least-zero.result c.side_least-middle.result c.args.best c.side_least-zero.ensures c.side_least-middle.ensures (omega (arith, c.min.ensures)) (omega (arith, c.min.ensures)) (sym c.is_better-3.ensures ∙ c.if-not-is_better.true)
 
 pub loop-book-preserved : goal.loop-book-preserved
 loop-book-preserved c =
-    scan_more_behind (cost_over c.args.state.now c.args.step true c.args.trial.now.pair (map (stepped c.args.step) c.args.values.now)) (with_lows c.args.trial.now.number c.args.trial.now.middle) c.args.best c.loop-book.best c.with_lows-best.result c.loop-book.book
+    scan_more_behind (cost_over c.args.state.now c.args.step true c.args.trial.now.pair (map (stepped c.args.step) c.args.values.now)) (with_lows c.args.trial.now.number c.args.trial.now.middle)
+    c.args.best c.loop-book.best c.with_lows-best.result c.loop-book.book
     (omega arith) c.loop-book.invariant c.with_lows-best.ensures
 
 pub returns : goal.returns
 returns c =
     let done : c.loop-book.book - 1 ≡ 3 = omega arith in
     c.loop-book.invariant
-    ∙ ap (λ (k : ℕ). least_from (cost_over c.args.state.now c.args.step true c.args.trial.now.pair (map (stepped c.args.step) c.args.values.now)) c.args.best (flat_map (with_lows c.args.trial.now.number c.args.trial.now.middle) (range_with_len 1 k))) done
+    ∙ ap (λ (k : ℕ). least_from (cost_over c.args.state.now c.args.step true c.args.trial.now.pair (map (stepped c.args.step) c.args.values.now)) c.args.best
+    (flat_map (with_lows c.args.trial.now.number c.args.trial.now.middle) (range_with_len 1 k))) done
 
 pub with_lows-best-requires-clause-sides : goal.with_lows-best-requires-clause-sides
 with_lows-best-requires-clause-sides c =
