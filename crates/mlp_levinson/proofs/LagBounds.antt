@@ -1,9 +1,9 @@
 -- Samples over a power of two, and the bounds of lags.
-use Rattle.std.proofs.Common.{◌≡◌, ℕ, suc, ◌*◌, ◌≤◌, ◌^◌, List, [], ◌∷◌, ◌++◌, length, drop, get_or, ℤ, pos, negsuc, neg_ℤ, ◌/◌, ◌≤ℤ◌, arith, sym, ◌∙◌, ap, subst}
-use Rattle.std.specs.Prelude.{All, map}
+use Rattle.std.proofs.Common.{◌≡◌, ℕ, suc, ◌*◌, ◌≤◌, ◌^◌, List, [], ◌∷◌, length, drop, get_or, ℤ, pos, negsuc, neg_ℤ, ◌/◌, ◌≤ℤ◌, arith, sym, subst}
+use Rattle.std.specs.Prelude.{All}
 use Rattle.std.proofs.Math.Nat.{div-le_self}
 use Rattle.std.proofs.lemmas.Int.{ints}
-use Rattle.std.proofs.lemmas.List.{length-drop, length-map, append-nil, drop_all}
+use Rattle.std.proofs.lemmas.List.{length-drop, length-map}
 use Rattle.std.proofs.lemmas.List.Elements.{All-cons, All-map, All-drop}
 use Rattle.mlp_arith.specs.Words.{floor_by}
 use Rattle.mlp_arith.specs.Ranges.{Is26}
@@ -72,10 +72,3 @@ pub first_small : (step : ℕ) (xs rs : List ℤ) → length xs ≤ 160 → All 
 first_small step xs rs n h e =
     let P : List ℤ → Type 0 = λ zs. IsLag (at zs 0) in
     subst P (sym e) (lag_small (over step xs) 0 (omega (arith, n, length-map xs (floor_by step))) (over26 step xs h))
-
--- what was put one by one is all of it
-pub over_done : (step i : ℕ) (xs ys : List ℤ) → length xs ≤ i → ys ++ map (floor_by step) (drop i xs) ≡ map (floor_by step) xs → All Is26 xs → All Is26 ys
-over_done step i xs ys n e h =
-    let P : List ℤ → Type 0 = λ zs. All Is26 zs in
-    let all : ys ≡ over step xs = sym (append-nil ys) ∙ ap (λ zs. ys ++ map (floor_by step) zs) (sym (drop_all i xs n)) ∙ e in
-    subst P (sym all) (over26 step xs h)

@@ -6,3 +6,4 @@ pub mod LagBounds
 pub mod Widths
 pub mod Bests
 pub mod Runs
+pub mod Padded
