@@ -107,7 +107,7 @@ fn bits_of(state: &ChannelState, history: &mut Predictor<8, 4>, samples: &[i32])
 {
     let choice = choose(state, history, 0, true, samples);
     let mut line = [0; 160];
-    reduced(
+    let _given = reduced(
         state,
         history,
         0,

@@ -13,7 +13,7 @@ use mlp_fold::CodedFrame;
 use mlp_params::ChannelState;
 use mlp_predict::Predictor;
 use mlp_residual::code_of;
-use mlp_search::{Choice, choose, given, reduced};
+use mlp_search::{Choice, choose, reduced};
 use mlp_syntax::{ChannelParams, Code, FrameCode};
 
 /// The value of a channel in a frame.
@@ -136,7 +136,7 @@ pub(crate) fn send_channel(
     let mut line = [0; 160];
     let residuals = &mut line[..samples.len()];
     let choice = choose(force, past, step, filters, samples);
-    reduced(force, past, step, &choice, samples, residuals);
+    let given = reduced(force, past, step, &choice, samples, residuals);
     push_codes(choice.book, &choice, step, residuals, frames);
-    given(force, step, &choice, samples)
+    given
 }

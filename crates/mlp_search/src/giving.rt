@@ -1,14 +1,12 @@
 //! What a choice writes.
 
-ghost use Rattle.std.specs.Prelude.{◌≡◌, ◌≤◌, length, All};
+ghost use Rattle.std.specs.Prelude.{◌≡◌};
 ghost use Rattle.std.specs.Ordering.{int_eq};
 ghost use Rattle.std.specs.Cmp.Lexicographic.{pointwise};
-ghost use Rattle.mlp_arith.specs.Ranges.{Is26};
-ghost use Rattle.mlp_params.specs.States.{IsChannelState};
-ghost use Rattle.mlp_search.specs.Given.{IsPair, same_filter, fir_stays, iir_stays, with_zeros, fir_given, iir_given, offset_given, codes_alike, given, given_by};
+ghost use Rattle.mlp_search.specs.Given.{same_filter, fir_stays, iir_stays, with_zeros, fir_given, iir_given, offset_given, codes_alike, given};
 
 use crate::choice::Choice;
-use crate::pair::{Pair, PairRef, pair_of};
+use crate::pair::{Pair, PairRef};
 use crate::reduction::zeros;
 use mlp_params::ChannelState;
 use mlp_syntax::{ChannelParams, Filter};
@@ -85,8 +83,9 @@ fn offset_given(state: &ChannelState, offset: i16) -> Option<i16>
     }
 }
 
-/// What a choice of these filters writes.
-fn given_of(state: &ChannelState, pair: Pair, choice: &Choice) -> Option<ChannelParams>
+/// What a choice of these filters writes: those of them, the offset, the book and the low bits that differ from those in
+/// force. Nothing where all stays as it is.
+pub(crate) fn given_of(state: &ChannelState, pair: Pair, choice: &Choice) -> Option<ChannelParams>
     ensures { result ≡ given state.now pair choice.now }
 {
     let view = pair.view();
@@ -107,22 +106,4 @@ fn given_of(state: &ChannelState, pair: Pair, choice: &Choice) -> Option<Channel
         book: choice.book,
         low: choice.low,
     })
-}
-
-/// What a choice writes: the filters, the offset, the book and the low bits that differ from those in force. Nothing
-/// where all stays as it is, or there are no filters of its number.
-pub fn given(
-    state: &ChannelState,
-    step: u8,
-    choice: &Choice,
-    samples: &[i32],
-) -> Option<ChannelParams>
-    requires state { IsChannelState state.now }
-    requires step { step ≤ 8 }
-    requires few { length samples.now ≤ 160 }
-    requires samples { All Is26 samples.now }
-    ensures { result ≡ given_by state.now step samples.now choice.now }
-{
-    let pair = pair_of(state, step, samples, choice.filter)?;
-    given_of(state, pair, choice)
 }

@@ -21,7 +21,6 @@ mod weighing;
 
 pub use choice::Choice;
 pub use costs::cost;
-pub use giving::given;
 pub use pair::Pair;
 pub use reduction::reduced;
 pub use search::choose;

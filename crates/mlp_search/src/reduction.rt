@@ -9,16 +9,18 @@ ghost use Rattle.mlp_params.specs.States.{IsChannelState};
 ghost use Rattle.mlp_search.specs.Candidates.{pair_of, past_for, residuals_for, past_behind};
 ghost use Rattle.mlp_predict.specs.Filters.{AreFilters, IsState};
 ghost use Rattle.mlp_search.specs.Cost.{cost_of};
+ghost use Rattle.mlp_search.specs.Given.{given_by};
 ghost use Rattle.mlp_search.specs.Lines.{IsIn};
 
 use crate::choice::Choice;
+use crate::giving::given_of;
 use crate::line::{Line, reduce_in};
 use crate::pair::{PairRef, pair_of};
 use crate::recursive::reduce_recursive;
 use arrayvec::ArrayVec;
 use mlp_params::ChannelState;
 use mlp_predict::Predictor;
-use mlp_syntax::FilterState;
+use mlp_syntax::{ChannelParams, FilterState};
 
 /// A state of so many zeros.
 pub(crate) fn zeros(count: usize) -> FilterState
@@ -117,7 +119,8 @@ pub(crate) fn values_for(
     true
 }
 
-/// Puts the residuals of a block by a choice that has a cost, and leaves the past behind them.
+/// Puts the residuals of a block by a choice that has a cost, leaves the past behind them, and says what the choice writes:
+/// the filters, the offset, the book and the low bits that differ from those in force. Nothing where all stays as it is.
 pub fn reduced(
     state: &ChannelState,
     history: &mut Predictor<8, 4>,
@@ -125,7 +128,7 @@ pub fn reduced(
     choice: &Choice,
     samples: &[i32],
     residuals: &mut [i32],
-)
+) -> Option<ChannelParams>
     requires state { IsChannelState state.now }
     requires step { step ≤ 8 }
     requires few { length samples.now ≤ 160 }
@@ -138,9 +141,10 @@ pub fn reduced(
     ensures past { let n = choice.now.filter in let past = history.old in
         option_map (past_behind past samples.now n) (pair_of state.now step samples.now n)
         ≡ Some history.new }
+    ensures given { result ≡ given_by state.now step samples.now choice.now }
 {
-    if let Some(pair) = pair_of(state, step, samples, choice.filter) {
-        put_state(history, choice.filter, &pair.view());
-        let _fit = history.reduce_block(&pair.fir, &pair.iir, step, samples, residuals);
-    }
+    let pair = pair_of(state, step, samples, choice.filter)?;
+    put_state(history, choice.filter, &pair.view());
+    let _fit = history.reduce_block(&pair.fir, &pair.iir, step, samples, residuals);
+    given_of(state, pair, choice)
 }

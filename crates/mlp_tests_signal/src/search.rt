@@ -127,7 +127,7 @@ fn left_by(
     let state = restarted();
     let block = words(samples);
     let bits = cost(&state, history, 2, choice, &block)?;
-    reduced(&state, history, 2, choice, &block, out);
+    let _given = reduced(&state, history, 2, choice, &block, out);
     Some(bits)
 }
 

@@ -16,7 +16,7 @@ returns-clause-given c =
     let k = c.choose-choice.result in
     let p = has_cost c.args.force.now c.args.past.now c.args.step true c.args.samples.now k k.bits c.choose-choice.ensures.costs in
     let is = channel_is c.args.force.now c.args.past.now c.args.step c.args.filters c.args.samples.now k p.pair c.requires.force c.choose-choice.ensures.chosen p.there in
-    c.given.ensures ∙ sym (ap (λ (x : Sent). x.given) is)
+    c.reduced-given.ensures.given ∙ sym (ap (λ (x : Sent). x.given) is)
 
 pub returns-clause-codes : goal.returns-clause-codes
 returns-clause-codes c =
@@ -24,7 +24,7 @@ returns-clause-codes c =
     let p = has_cost c.args.force.now c.args.past.now c.args.step true c.args.samples.now k k.bits c.choose-choice.ensures.costs in
     let is = channel_is c.args.force.now c.args.past.now c.args.step c.args.filters c.args.samples.now k p.pair c.requires.force c.choose-choice.ensures.chosen p.there in
     let f = λ (q : Pair). residuals_for c.args.past.now c.args.step c.args.samples.now k.filter q in
-    let e = some_is (f p.pair) c.reduced.new.residuals (ap (λ (o : Option Pair). option_map f o) (sym p.there) ∙ c.reduced.ensures.residuals) in
+    let e = some_is (f p.pair) c.reduced-given.new.residuals (ap (λ (o : Option Pair). option_map f o) (sym p.there) ∙ c.reduced-given.ensures.residuals) in
     c.push_codes.ensures
     ∙ ap (λ (rs : List ℤ). with_codes (map (code_by k.book (k.low - c.args.step) k.offset c.args.step) rs) c.args.frames.now) (sym e)
     ∙ sym (ap (λ (x : Sent). with_codes x.codes c.args.frames.now) is)
@@ -35,5 +35,5 @@ returns-clause-past c =
     let p = has_cost c.args.force.now c.args.past.now c.args.step true c.args.samples.now k k.bits c.choose-choice.ensures.costs in
     let is = channel_is c.args.force.now c.args.past.now c.args.step c.args.filters c.args.samples.now k p.pair c.requires.force c.choose-choice.ensures.chosen p.there in
     let f = λ (q : Pair). past_behind c.args.past.now c.args.samples.now k.filter q in
-    let e = some_is (f p.pair) c.reduced.new.history (ap (λ (o : Option Pair). option_map f o) (sym p.there) ∙ c.reduced.ensures.past) in
+    let e = some_is (f p.pair) c.reduced-given.new.history (ap (λ (o : Option Pair). option_map f o) (sym p.there) ∙ c.reduced-given.ensures.past) in
     sym e ∙ sym (ap (λ (x : Sent). x.past) is)
