@@ -139,7 +139,7 @@ pub fn side(q: u8, frame: &[i32; 8]) -> [i32; 8]
 }
 
 /// Coded channels without bypassed bits.
-fn values_alone(values: [i32; 8]) -> CodedFrame
+pub fn values_alone(values: [i32; 8]) -> CodedFrame
     ensures { result ≡ record { values = values; bypass = 0 } }
 {
     CodedFrame { values, bypass: 0 }
