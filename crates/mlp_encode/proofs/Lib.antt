@@ -34,5 +34,6 @@ pub mod UnitLengths
 pub mod SentStarts
 pub mod SentUnits
 pub mod FramesFilled
+pub mod SilentChecks
 pub mod UnitMade
 pub mod UnitSent

@@ -16,5 +16,5 @@ pub use encoder::{Encoder, OpenRefusal};
 pub use segments::send_segment;
 pub use sync::sync_of;
 pub use unit::{
-    Written, checks_behind, fill_up, restart_in, send_substream, send_substreams, terminator_of,
+    Written, checks_behind, restart_in, send_substream, send_substreams, terminator_of,
 };

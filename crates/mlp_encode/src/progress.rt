@@ -1,5 +1,5 @@
 //! What goes on from one unit to the next, and how a unit is sent.
-ghost use Rattle.std.specs.Prelude.{◌≡◌, ◌≤◌, ◌<◌, ◌+◌, ◌^◌, Ok, None, Some, All, take, length, replicate, OnOk, if◌then◌else◌};
+ghost use Rattle.std.specs.Prelude.{◌≡◌, ◌≤◌, ◌<◌, ◌+◌, ◌^◌, Ok, None, Some, All, take, length, replicate, pos, OnOk, if◌then◌else◌};
 ghost use Rattle.std.specs.Option.{option_copied};
 ghost use Rattle.mlp_predict.specs.Prediction.{zeros};
 ghost use Rattle.mlp_fifo.specs.Pace.{IsRate, unit_of};
@@ -15,7 +15,7 @@ ghost use Rattle.mlp_encode.specs.Encoding.{IsEncoding, IsMade, IsBody, going_of
 
 use crate::numbers::has_sync;
 use crate::sync::sync_of;
-use crate::unit::{Written, checks_behind, fill_up, send_substreams, terminator_of};
+use crate::unit::{Written, checks_behind, send_substreams, terminator_of};
 use arrayvec::ArrayVec;
 use mlp_bits::BitWriter;
 use mlp_fifo::{Fifo, Pace};
@@ -47,8 +47,6 @@ pub struct Progress {
 /// What is written over in each unit.
 #[derive(Drop)]
 pub struct Scratch {
-    /// The frames, filled up.
-    pub frames: [[i32; 8]; 160],
     pub coded: [CodedFrame; 160],
     pub presented: [[i32; 8]; 160],
     pub written: Written,
@@ -58,7 +56,6 @@ impl Scratch {
     /// Room for a unit.
     pub fn new() -> Scratch {
         Scratch {
-            frames: [[0; 8]; 160],
             coded: [CodedFrame {
                 values: [0; 8],
                 bypass: 0,
@@ -150,31 +147,36 @@ fn unit_frames(profile: &Profile) -> u16
     Pace::of(profile.kind, profile.rate).unit as u16
 }
 
-/// Fills up the frames of a unit, and codes them. All of them have so many.
-fn code_unit(
-    profile: &Profile,
-    rows: &[[i32; 8]],
-    count: usize,
-    frames: &mut [[i32; 8]; 160],
-    coding: &mut [CodedFrame; 160],
-)
+/// Codes frames of zeros.
+fn code_silence(profile: &Profile, coding: &mut [CodedFrame])
+    requires profile { AreMixed profile.now.mix profile.now.depth profile.now.channels }
+    ensures { coding.new
+        ≡ coded profile.now (replicate (length coding.old) (replicate 8 (pos 0))) }
+{
+    for i in 0..coding.len() {
+        coding[i] = mlp_fold::coded(profile.mix, profile.depth, profile.channels, &[0; 8]);
+    }
+}
+
+/// Codes the frames of a unit, filled up with frames of zeros. All of them have so many.
+fn code_unit(profile: &Profile, rows: &[[i32; 8]], count: usize, coding: &mut [CodedFrame; 160])
     requires profile { AreMixed profile.now.mix profile.now.depth profile.now.channels }
     requires count { count ≡ unit_of profile.now.rate }
     requires most { count ≤ 160 }
     requires few { length rows.now ≤ count }
     requires samples { let p = profile.now in
         All (AreSamples (low_zeros p.depth) p.channels) rows.now }
-    ensures frames { take count frames.new ≡ filled profile.now rows.now }
-    ensures coded { take count coding.new ≡ coded profile.now (filled profile.now rows.now) }
+    ensures { take count coding.new ≡ coded profile.now (filled profile.now rows.now) }
 {
-    fill_up(rows, count, frames);
+    let there = rows.len();
     code_frames(
         profile.mix,
         profile.depth,
         profile.channels,
-        &frames[..count],
-        &mut coding[..count],
+        rows,
+        &mut coding[..there],
     );
+    code_silence(profile, &mut coding[there..count]);
 }
 
 /// There are the pasts of eight channels.
@@ -194,13 +196,7 @@ fn make_unit(progress: &mut Progress, rows: &[[i32; 8]], last: bool, scratch: &m
     let all = unit_frames(profile);
     let count = usize::from(all);
     let major = has_sync(progress.units);
-    code_unit(
-        profile,
-        rows,
-        count,
-        &mut scratch.frames,
-        &mut scratch.coded,
-    );
+    code_unit(profile, rows, count, &mut scratch.coded);
     send_substreams(
         profile,
         &Place {
@@ -218,14 +214,8 @@ fn make_unit(progress: &mut Progress, rows: &[[i32; 8]], last: bool, scratch: &m
         &mut progress.pasts,
         &mut scratch.written,
     );
-    let presented = &mut scratch.presented[..];
-    checks_behind(
-        profile,
-        major,
-        &scratch.frames[..count],
-        &mut presented[..count],
-        &mut progress.checks,
-    );
+    let presented = &mut scratch.presented[..rows.len()];
+    checks_behind(profile, major, rows, presented, &mut progress.checks);
     law_pasts(&progress.pasts);
 }
 

@@ -32,25 +32,6 @@ use mlp_predict::Predictor;
 use mlp_substream::{Place, write_segment_with};
 use mlp_syntax::{DirEntry, Kind, Restart, Segment, UnitBytes};
 
-/// A frame, or zeros behind the last one.
-fn row_at(rows: &[[i32; 8]], i: usize) -> [i32; 8]
-    ensures { result ≡ slice_index_or rows.now i (replicate 8 (pos 0)) }
-{
-    if i < rows.len() { rows[i] } else { [0; 8] }
-}
-
-/// Frames filled up with frames of zeros.
-pub fn fill_up(rows: &[[i32; 8]], count: usize, out: &mut [[i32; 8]; 160])
-    requires most { count ≤ 160 }
-    requires few { length rows.now ≤ count }
-    ensures { take count out.new
-        ≡ rows.now ++ replicate (count - length rows.now) (replicate 8 (pos 0)) }
-{
-    for i in 0..count {
-        out[i] = row_at(rows, i);
-    }
-}
-
 /// The second word of the terminator, which in TrueHD says how many frames were filled up.
 fn end_word(kind: Kind, more: u16) -> u16
     requires { more ≤ 160 }
