@@ -35,5 +35,6 @@ pub mod SentStarts
 pub mod SentUnits
 pub mod FramesFilled
 pub mod SilentChecks
+pub mod ChannelChecks
 pub mod UnitMade
 pub mod UnitSent

@@ -48,7 +48,6 @@ pub struct Progress {
 #[derive(Drop)]
 pub struct Scratch {
     pub coded: [CodedFrame; 160],
-    pub presented: [[i32; 8]; 160],
     pub written: Written,
 }
 
@@ -60,7 +59,6 @@ impl Scratch {
                 values: [0; 8],
                 bypass: 0,
             }; 160],
-            presented: [[0; 8]; 160],
             written: Written {
                 segment: Segment::default(),
                 writer: BitWriter::new(),
@@ -214,8 +212,7 @@ fn make_unit(progress: &mut Progress, rows: &[[i32; 8]], last: bool, scratch: &m
         &mut progress.pasts,
         &mut scratch.written,
     );
-    let presented = &mut scratch.presented[..rows.len()];
-    checks_behind(profile, major, rows, presented, &mut progress.checks);
+    checks_behind(profile, major, rows, &mut progress.checks);
     law_pasts(&progress.pasts);
 }
 

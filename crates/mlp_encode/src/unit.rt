@@ -2,7 +2,7 @@
 ghost use Rattle.std.specs.Prelude.{Ok, ◌≡◌, ◌≤◌, ◌<◌, ◌+◌, ◌-◌, ◌/◌, ◌*◌, ◌%◌, ◌^◌, ◌++◌, ◌∷◌, [], ℕ, not, None, Some, true, false, All, map, take, drop, length, replicate, slice_index_or, pos, is_some, IfSome, if◌then◌else◌};
 ghost use Rattle.std.specs.List.{range_with_len};
 ghost use Rattle.std.specs.Int.{w32, cast_unsigned};
-ghost use Rattle.mlp_output.specs.Output.{check_from, check_of};
+ghost use Rattle.mlp_output.specs.Output.{check_of};
 ghost use Rattle.mlp_fifo.specs.Pace.{IsRate, unit_of, pace_of};
 ghost use Rattle.mlp_fifo.specs.Schedule.{out_of};
 ghost use Rattle.mlp_fold.specs.Profile.{AreMixed};
@@ -25,7 +25,7 @@ use crate::segments::send_segment;
 use crate::sync::restart_of;
 use arrayvec::ArrayVec;
 use mlp_bits::BitWriter;
-use mlp_fold::{CodedFrame, Profile, present_frames};
+use mlp_fold::{CodedFrame, Profile, sum_presented};
 use mlp_output::folded;
 use mlp_params::State;
 use mlp_predict::Predictor;
@@ -211,79 +211,46 @@ pub fn send_substreams(
     }
 }
 
-/// The 24 bits of a value, times 2 to its channel.
-fn part_of(value: i32, channel: usize) -> u32
+/// The 24 bits of a word, times 2 to its channel.
+fn part_of(word: u32, channel: u8) -> u32
     requires { channel < 8 }
-    ensures { result ≡ cast_unsigned w32 value % 2 ^ 24 * 2 ^ channel }
+    ensures { result ≡ word % 2 ^ 24 * 2 ^ channel }
 {
-    (value.cast_unsigned() & 0xFF_FFFF) << channel
+    (word & 0xFF_FFFF) << channel
 }
 
-/// The sum without carries of these parts of a frame.
-fn check_from(frame: &[i32; 8]) -> u32
-    ensures { result ≡ check_from 0 frame.now }
+/// The running check that a unit begins with. A restart begins it anew.
+fn check_before(sync: bool, running: u32) -> u32
+    ensures { result ≡ (if sync then 0 else running) }
 {
-    let mut check = 0;
-    for c in (0..8usize).rev() {
-        check ^= part_of(frame[c], c);
-    }
-    check
+    if sync { 0 } else { running }
 }
 
-/// A running check with more frames.
-fn check_of(running: u32, frames: &[[i32; 8]]) -> u32
-    ensures { result ≡ check_of running frames.now }
-{
-    let mut check = running;
-    for i in 0..frames.len() {
-        check ^= check_from(&frames[i]);
-    }
-    check
-}
-
-/// The running check of a presentation behind the frames of a unit. A restart begins it anew. `presented` is of no use
-/// before and afterwards.
-fn check_behind(
-    profile: &Profile,
-    sync: bool,
-    k: u8,
-    running: u32,
-    frames: &[[i32; 8]],
-    presented: &mut [[i32; 8]],
-) -> u32
+/// The running check of a presentation behind the frames of a unit, channel by channel.
+fn check_behind(profile: &Profile, sync: bool, k: u8, running: u32, frames: &[[i32; 8]]) -> u32
     requires shape { AreMixed profile.now.mix profile.now.depth profile.now.channels }
+    requires k { k < substreams_of profile.now.channels }
     requires samples { All (AreSamples (24 - profile.now.depth) profile.now.channels) frames.now }
-    requires room { length presented.old ≡ length frames.now }
     ensures { let p = profile.now in result ≡ check_of (if sync then 0 else running)
         (map (presented_of p.mix (low_zeros p.depth) p.channels k) frames.now) }
 {
-    present_frames(
-        profile.mix,
-        profile.depth,
-        profile.channels,
-        k,
-        frames,
-        presented,
-    );
-    check_of(if sync { 0 } else { running }, presented)
+    let mut check = check_before(sync, running);
+    for c in 0..mlp_fold::channels_of(k) {
+        let sum = sum_presented(profile.mix, profile.depth, profile.channels, k, c, frames);
+        check ^= part_of(sum, c);
+    }
+    check
 }
 
 /// The running checks of all presentations behind the frames of a unit.
-pub fn checks_behind(
-    profile: &Profile,
-    sync: bool,
-    frames: &[[i32; 8]],
-    presented: &mut [[i32; 8]],
-    checks: &mut [u32; 3],
-)
+pub fn checks_behind(profile: &Profile, sync: bool, frames: &[[i32; 8]], checks: &mut [u32; 3])
     requires shape { AreMixed profile.now.mix profile.now.depth profile.now.channels }
     requires samples { All (AreSamples (24 - profile.now.depth) profile.now.channels) frames.now }
-    requires room { length presented.old ≡ length frames.now }
     ensures { let count = substreams_of profile.now.channels in take count checks.new
         ≡ map (check_with profile.now sync checks.old frames.now) (range_with_len 0 count) }
 {
     for k in 0..mlp_fold::substreams(profile.channels) {
         let at = usize::from(k);
-        checks[at] = check_behind(profile, sync, k, checks[at], frames, presented);
+        checks[at] = check_behind(profile, sync, k, checks[at], frames);
     }
 }

@@ -3,3 +3,4 @@ pub mod Mix
 pub mod Rows
 pub mod Undone
 pub mod Substreams
+pub mod Sums

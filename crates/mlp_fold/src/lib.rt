@@ -3,6 +3,7 @@
 
 mod blocks;
 mod channels;
+mod checking;
 mod coding;
 pub mod laws;
 mod matrices;
@@ -12,6 +13,7 @@ mod sums;
 
 pub use blocks::{code_frames, present_frames};
 pub use channels::{channels_of, first_channel, last_channel, substreams};
+pub use checking::sum_presented;
 pub use coding::{CodedFrame, coded};
 pub use matrices::{rows, steps};
 pub use mlp_syntax::ProfileFault;

@@ -1,20 +1,20 @@
 -- What a decoder gives of a unit's frames, by what is in force in the last substream that it reads.
 use Rattle.std.proofs.Common.{◌≡◌, ℕ, ◌-◌, ◌≤◌, ℤ, List, [], ◌∷◌, ◌++◌, map, take, replicate, refl, ap, ◌∙◌}
-use Rattle.std.specs.Prelude.{All, ◌==◌, bit_xor, if◌then◌else◌}
+use Rattle.std.specs.Prelude.{All, ◌==◌, if◌then◌else◌}
 use Rattle.std.specs.List.{range_with_len}
 use Rattle.std.proofs.lemmas.List.Elements.{All-head, All-tail}
 use Rattle.mlp_syntax.specs.declared.params.MatrixRow.{MatrixRow}
 use Rattle.mlp_params.specs.declared.state.State.{State}
 use Rattle.mlp_matrix.specs.Matrix.{applied}
 use Rattle.mlp_matrix.specs.Noise.{noise_values, next_seed}
-use Rattle.mlp_output.specs.Output.{noise_in, matrixed, samples_of, placed, placed_each, heard, check_from, check_of}
+use Rattle.mlp_output.specs.Output.{noise_in, matrixed, samples_of, placed, placed_each, heard}
 use Rattle.mlp_fold.specs.declared.profile.Mix.{Mix}
 use Rattle.mlp_fold.specs.Profile.{AreMixed}
 use Rattle.mlp_fold.specs.Mix.{AreSamples, channels_of, coded_of, coded_frame, presented_of}
 use Rattle.mlp_fold.specs.Rows.{rows_of, steps_of}
 use Rattle.mlp_encode.specs.Numbers.{noise_kind}
 use Rattle.mlp_encode.specs.Blocks.{bypass_in}
-use Rattle.mlp_lossless.proofs.Shown.{noise_by, samples_shown, placed_shown, in_check}
+use Rattle.mlp_lossless.proofs.Shown.{noise_by, samples_shown, placed_shown}
 
 -- rows and steps of the mix, no shifts, and each matrix channel at its own place
 pub record IsTop (mix : Mix) (depth channels j : ℕ) (s : State) : Type 0 where
@@ -61,12 +61,3 @@ module _ (mix : Mix) (depth channels j : ℕ) (m : AreMixed mix depth channels) 
       ap (λ (assign : List ℕ). placed assign v ∷ later) is.assign
       ∙ ap (λ (f : List ℤ). f ∷ later) (placed_shown mix depth channels j x m top (All-head P x pcm h))
       ∙ ap (λ (fs : List (List ℤ)). presented_of mix (24 - depth) channels j x ∷ fs) (all_placed pcm (All-tail P x pcm h))
-
--- the check over the channels of a presentation is that over its eight places
-pub checks_same : (mix : Mix) (q channels j running : ℕ) (pcm : List (List ℤ))
-    → check_of running (map (λ x. take (channels_of j) (presented_of mix q channels j x)) pcm) ≡ check_of running (map (presented_of mix q channels j) pcm)
-checks_same mix q channels j running [] = refl
-checks_same mix q channels j running (x ∷ pcm) =
-    let later : List (List ℤ) = map (λ x. take (channels_of j) (presented_of mix q channels j x)) pcm in
-    ap (λ (n : ℕ). check_of (bit_xor running n) later) (in_check mix q channels j x)
-    ∙ checks_same mix q channels j (bit_xor running (check_from 0 (presented_of mix q channels j x))) pcm

@@ -11,7 +11,7 @@ use Rattle.mlp_matrix.specs.Matrix.{applied}
 use Rattle.mlp_matrix.specs.Noise.{noise_values}
 use Rattle.mlp_matrix.specs.Front.{AreWithin}
 use Rattle.mlp_matrix.proofs.Fronts.{take-applied}
-use Rattle.mlp_output.specs.Output.{sample, samples_of, placed, check_from}
+use Rattle.mlp_output.specs.Output.{sample, samples_of, placed}
 use Rattle.mlp_fold.specs.declared.profile.Mix.{Mix}
 use Rattle.mlp_fold.specs.declared.profile.Mix.TheVariants.{Split, Fold, Bypass, Side}
 use Rattle.mlp_fold.specs.Profile.{AreMixed}
@@ -22,7 +22,7 @@ use Rattle.mlp_fold.proofs.Wide.{wide}
 use Rattle.mlp_encode.specs.Numbers.{noise_kind}
 use Rattle.mlp_encode.specs.Blocks.{bypass_in}
 
--- ---- the places of the channels, and their part in the check
+-- ---- the places of the channels
 
 in_place : (mix : Mix) (q channels j : ℕ) (x : List ℤ) → placed (range_with_len 0 (channels_of j)) (take (channels_of j) (presented_of mix q channels j x)) ≡ presented_of mix q channels j x
 in_place Split q channels zero x = refl
@@ -37,26 +37,6 @@ in_place Side q channels (suc (suc j)) x = refl
 in_place Fold q channels j x = pick (channels == 6) j
   where
     pick : (t : Bool) (j : ℕ) → let v : List ℤ = if t then presented_of Fold q 6 j x else presented_of Fold q 8 j x in placed (range_with_len 0 (channels_of j)) (take (channels_of j) v) ≡ v
-    pick true zero = refl
-    pick true (suc zero) = refl
-    pick true (suc (suc j)) = refl
-    pick false zero = refl
-    pick false (suc zero) = refl
-    pick false (suc (suc j)) = refl
-
-pub in_check : (mix : Mix) (q channels j : ℕ) (x : List ℤ) → check_from 0 (take (channels_of j) (presented_of mix q channels j x)) ≡ check_from 0 (presented_of mix q channels j x)
-in_check Split q channels zero x = refl
-in_check Split q channels (suc zero) x = refl
-in_check Split q channels (suc (suc j)) x = refl
-in_check Bypass q channels zero x = refl
-in_check Bypass q channels (suc zero) x = refl
-in_check Bypass q channels (suc (suc j)) x = refl
-in_check Side q channels zero x = refl
-in_check Side q channels (suc zero) x = refl
-in_check Side q channels (suc (suc j)) x = refl
-in_check Fold q channels j x = pick (channels == 6) j
-  where
-    pick : (t : Bool) (j : ℕ) → let v : List ℤ = if t then presented_of Fold q 6 j x else presented_of Fold q 8 j x in check_from 0 (take (channels_of j) v) ≡ check_from 0 v
     pick true zero = refl
     pick true (suc zero) = refl
     pick true (suc (suc j)) = refl

@@ -58,7 +58,8 @@ use Rattle.mlp_lossless.proofs.Bodies.{HasBytes, has_bytes, all_bits}
 use Rattle.mlp_lossless.proofs.Parts.{bytes_count}
 use Rattle.mlp_lossless.proofs.Outer.{outer_allowed}
 use Rattle.mlp_lossless.proofs.Found.{AllStand, found_all}
-use Rattle.mlp_lossless.proofs.Heard.{all_placed, checks_same}
+use Rattle.mlp_encode.proofs.ChannelChecks.{checks_same}
+use Rattle.mlp_lossless.proofs.Heard.{all_placed}
 use Rattle.mlp_lossless.proofs.Playing.{heard_unit}
 use Rattle.mlp_lossless.proofs.Told.{all_tell}
 

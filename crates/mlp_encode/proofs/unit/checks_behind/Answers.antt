@@ -15,8 +15,5 @@ loop-k-preserved c =
     let lt : k < 3 = omega (arith, substreams_most p.channels, c.substreams-k-end.ensures, c.loop-k-test.true) in
     let long : length c.args.checks.now ≡ 3 = c.told-checks in
     let with_it : ℕ → ℕ = λ x. check_of (if c.args.sync then 0 else x) (map (presented_of p.mix (low_zeros p.depth) p.channels k) c.args.frames.now) in
-    let value = c.check_behind.ensures ∙ ap (λ (i : ℕ). with_it (get_or c.loop-k.checks i 0)) c.from-at.ensures ∙ ap with_it (not_yet f k c.loop-k.checks c.args.checks.now c.loop-k.invariant.checks lt long) in
-    record {
-      checks = one_more f k c.loop-k.checks c.args.checks.now c.loop-k.invariant.checks lt long c.from-at.result c.check_behind.result c.from-at.ensures value;
-      room = c.check_behind.auto.presented ∙ c.loop-k.invariant.room;
-    }
+    let value = c.check_behind.ensures ∙ ap (λ (i : ℕ). with_it (get_or c.loop-k.checks i 0)) c.from-at.ensures ∙ ap with_it (not_yet f k c.loop-k.checks c.args.checks.now c.loop-k.invariant lt long) in
+    one_more f k c.loop-k.checks c.args.checks.now c.loop-k.invariant lt long c.from-at.result c.check_behind.result c.from-at.ensures value

@@ -1,10 +1,6 @@
-use Rattle.std.proofs.Common.{length, ◌≡◌}
 use Rattle.mlp_encode.specs.Unit.{check_with}
 use Rattle.mlp_encode.proofs.Renewed.{Renewed}
 use Rattle.mlp_encode.proofs.unit.checks_behind.Given as goal
 
 abbrev pub invariant-loop-k : goal.invariant-loop-k
-invariant-loop-k l = record {
-  checks : Renewed (check_with l.profile l.sync l.initial.checks l.frames) l.k l.checks l.initial.checks;
-  room : length l.presented ≡ length l.frames;
-}
+invariant-loop-k l = Renewed (check_with l.profile l.sync l.initial.checks l.frames) l.k l.checks l.initial.checks

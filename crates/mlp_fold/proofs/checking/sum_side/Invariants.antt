@@ -1,0 +1,7 @@
+use Rattle.std.proofs.Common.{◌≡◌, drop, map}
+use Rattle.mlp_fold.specs.Mix.{at, presented_fold8}
+use Rattle.mlp_fold.specs.Sums.{sum_of}
+use Rattle.mlp_fold.proofs.checking.sum_side.Given as goal
+
+abbrev pub invariant-loop-i : goal.invariant-loop-i
+invariant-loop-i l = sum_of l.sum (map (λ x. at (presented_fold8 l.q 1 x) l.channel) (drop l.i l.frames)) ≡ sum_of 0 (map (λ x. at (presented_fold8 l.q 1 x) l.channel) l.frames)
