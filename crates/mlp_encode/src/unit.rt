@@ -1,7 +1,6 @@
 //! What is sent of a unit: its frames filled up, restarts, terminators and segments, and the running checks behind it.
-ghost use Rattle.std.specs.Prelude.{Ok, ◌≡◌, ◌≤◌, ◌<◌, ◌+◌, ◌-◌, ◌/◌, ◌*◌, ◌%◌, ◌^◌, ◌++◌, ◌∷◌, [], ℕ, not, None, Some, true, false, All, map, take, drop, length, replicate, slice_index_or, pos, is_some, IfSome, if◌then◌else◌};
+ghost use Rattle.std.specs.Prelude.{Ok, ◌≡◌, ◌≤◌, ◌<◌, ◌+◌, ◌-◌, ◌/◌, ◌*◌, ◌%◌, ◌^◌, ◌++◌, ◌∷◌, [], ℕ, None, Some, true, false, All, map, take, length, slice_index_or, is_some, if◌then◌else◌};
 ghost use Rattle.std.specs.List.{range_with_len};
-ghost use Rattle.std.specs.Int.{w32, cast_unsigned};
 ghost use Rattle.mlp_output.specs.Output.{check_of};
 ghost use Rattle.mlp_fifo.specs.Pace.{IsRate, unit_of, pace_of};
 ghost use Rattle.mlp_fifo.specs.Schedule.{out_of};

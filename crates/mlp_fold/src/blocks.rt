@@ -2,10 +2,9 @@
 
 ghost use Rattle.std.specs.Prelude.{◌≡◌, ◌≤◌, ◌-◌, length, map, All};
 ghost use Rattle.mlp_fold.specs.Profile.{AreMixed};
-ghost use Rattle.mlp_fold.specs.Mix.{AreSamples, IsCoded, coded_frame, presented_of};
+ghost use Rattle.mlp_fold.specs.Mix.{AreSamples, IsCoded, coded_frame};
 
 use crate::coding::{CodedFrame, bypass, fold6, fold8, shown, side, values_alone};
-use crate::presenting::presented;
 use crate::profile::Mix;
 
 /// Puts into `out`, which is as long as `frames`, what Split codes of each frame.
@@ -94,23 +93,4 @@ pub fn code_frames(mix: Mix, depth: u8, channels: u8, frames: &[[i32; 8]], out: 
     ensures wide { All IsCoded out.new }
 {
     code_by(mix, depth, channels, frames, out);
-}
-
-/// Puts into `out`, which is as long as `frames`, what `presented` answers of each frame.
-pub fn present_frames(
-    mix: Mix,
-    depth: u8,
-    channels: u8,
-    k: u8,
-    frames: &[[i32; 8]],
-    out: &mut [[i32; 8]],
-)
-    requires profile { AreMixed mix depth channels }
-    requires samples { All (AreSamples (24 - depth) channels) frames.now }
-    requires count { length out.old ≡ length frames.now }
-    ensures { out.new ≡ map (presented_of mix (24 - depth) channels k) frames.now }
-{
-    for i in 0..frames.len() {
-        out[i] = presented(mix, depth, channels, k, &frames[i]);
-    }
 }

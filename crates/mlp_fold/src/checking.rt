@@ -1,9 +1,9 @@
 //! Sums of what presentations show, for checks.
 
-ghost use Rattle.std.specs.Prelude.{◌≡◌, ◌≤◌, ◌<◌, ◌+◌, ◌-◌, ◌^◌, map, All, bit_xor};
+ghost use Rattle.std.specs.Prelude.{◌≡◌, ◌≤◌, ◌<◌, ◌-◌, map, All, bit_xor};
 ghost use Rattle.std.specs.Int.{w32, cast_unsigned};
 ghost use Rattle.mlp_fold.specs.Profile.{AreMixed};
-ghost use Rattle.mlp_fold.specs.Mix.{at, AreSamples, channels_of, stereo, front6, front8, halved, presented_of, presented_fold6, presented_fold8};
+ghost use Rattle.mlp_fold.specs.Mix.{at, AreSamples, channels_of, presented_of, presented_fold6, presented_fold8};
 ghost use Rattle.mlp_fold.specs.Substreams.{substreams_of};
 ghost use Rattle.mlp_fold.specs.Sums.{sum_of};
 

@@ -11,7 +11,7 @@ mod presenting;
 mod profile;
 mod sums;
 
-pub use blocks::{code_frames, present_frames};
+pub use blocks::code_frames;
 pub use channels::{channels_of, first_channel, last_channel, substreams};
 pub use checking::sum_presented;
 pub use coding::{CodedFrame, coded};

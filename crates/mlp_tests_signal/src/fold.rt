@@ -6,7 +6,7 @@ ghost use Rattle.mlp_fold.specs.Mix.{AreSamples, channels_of};
 
 use mlp_fold::{
     CodedFrame, Mix, Profile, ProfileFault, channels_of, code_frames, coded, first_channel,
-    last_channel, present_frames, presented, rows, steps, substreams,
+    last_channel, presented, rows, steps, substreams, sum_presented,
 };
 use mlp_matrix::apply;
 use mlp_syntax::Kind;
@@ -102,7 +102,7 @@ fn sends_low_bits_and_the_side(rt: HostRuntime) {
 }
 
 #[test]
-fn codes_and_presents_frames(rt: HostRuntime) {
+fn codes_frames_and_sums_presentations(rt: HostRuntime) {
     let frames = [
         [1000, 0, 1000, 0, 0, 0, 0, 0],
         [8388607, 8388607, 8388607, 8388607, 8388607, 8388607, 0, 0],
@@ -114,10 +114,12 @@ fn codes_and_presents_frames(rt: HostRuntime) {
     code_frames(Mix::Fold, 24, 6, &frames, &mut coded);
     assert_eq!(rt; coded[0].values, [1708, 708, 1000, 0, 0, 0, 0, 0]);
     assert_eq!(rt; coded[1].values[0], 20251646);
-    let mut stereo = [[0; 8]; 2];
-    present_frames(Mix::Fold, 24, 6, 0, &frames, &mut stereo);
-    assert_eq!(rt; stereo[0], [707, 293, 0, 0, 0, 0, 0, 0]);
-    assert_eq!(rt; stereo[1], [8387919, 8387919, 0, 0, 0, 0, 0, 0]);
+    let sum = sum_presented(Mix::Fold, 24, 6, 0, 0, &frames);
+    assert_eq!(rt; sum, 707 ^ 8387919);
+    let sum = sum_presented(Mix::Fold, 24, 6, 0, 1, &frames);
+    assert_eq!(rt; sum, 293 ^ 8387919);
+    let sum = sum_presented(Mix::Fold, 24, 6, 1, 2, &frames);
+    assert_eq!(rt; sum, 1000 ^ 8388607);
 }
 
 #[test]

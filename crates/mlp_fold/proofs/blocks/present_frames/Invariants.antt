@@ -1,9 +1,0 @@
-use Rattle.std.proofs.Common.{◌≡◌, ◌-◌, take, map, length}
-use Rattle.mlp_fold.specs.Mix.{presented_of}
-use Rattle.mlp_fold.proofs.blocks.present_frames.Given as goal
-
-abbrev pub invariant-loop-i : goal.invariant-loop-i
-invariant-loop-i l = record {
-  so_far : take l.i l.out ≡ map (presented_of l.mix (24 - l.depth) l.channels l.k) (take l.i l.frames);
-  count : length l.out ≡ length l.frames;
-}
