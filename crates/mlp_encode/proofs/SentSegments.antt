@@ -28,8 +28,9 @@ use Rattle.mlp_fold.specs.Rows.{steps_of}
 use Rattle.mlp_fold.specs.Substreams.{last_channel}
 use Rattle.mlp_encode.specs.Numbers.{low_zeros}
 use Rattle.mlp_encode.specs.Coding.{column}
-use Rattle.mlp_encode.specs.Blocks.{Force, SentBlock, sent_in, params_of, block_sent, with_block, empty, segment_of, restarted, restart_sent, later_sent}
+use Rattle.mlp_encode.specs.Blocks.{Force, SentBlock, behind_params, given_in, sent_in, params_of, block_sent, with_block, empty, segment_of, restarted, restart_sent, later_sent}
 use Rattle.mlp_encode.specs.Lawful.{IsBegun, IsCodable, IsSendable, IsInForce, AreCodedBy, IsRestartOf, IsSentSegment}
+use Rattle.mlp_encode.proofs.SentChannels.{codes_in_count}
 use Rattle.mlp_encode.proofs.SentParams.{steps_count}
 use Rattle.mlp_encode.proofs.SentStates.{given_applies}
 use Rattle.mlp_encode.proofs.SentBlocks.{lawful_behind}
@@ -183,6 +184,13 @@ module _ (p : Profile) (j : ℕ) (frames : List CodedFrame) (which : j ≤ 2) (s
       }
 
 -- ---- segments
+
+-- codes for each frame
+pub block_count : (j : ℕ) (p : Profile) (restart : Option Restart) (before : Force) (frames : List CodedFrame) → length (block_sent j p restart before frames).codes ≡ length frames
+unfolding block_sent
+block_count j p restart before frames =
+    let given = given_in j p (is_some restart) before frames in
+    codes_in_count (behind_params given before.state).rows.items (sent_in j p (is_some restart) before frames) frames
 
 -- what a block leaves can be in force
 pub behind_in_force : (j : ℕ) (p : Profile) (restart : Option Restart) (before : Force) (frames : List CodedFrame) → IsSendable j p (is_some restart) before.state frames → IsInForce p j (block_sent j p restart before frames).behind.state

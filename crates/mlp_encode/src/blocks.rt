@@ -1,5 +1,5 @@
 //! What is sent of a substream in a unit: its blocks, as a segment.
-ghost use Rattle.std.specs.Prelude.{◌≡◌, ◌≤◌, ◌<◌, ◌+◌, ◌-◌, ◌++◌, ◌∷◌, [], ℕ, List, All, length, take, drop, map, replicate, nat_lt, is_some, is_none, IsTrue, false, true, Some, None, slice_index_or};
+ghost use Rattle.std.specs.Prelude.{◌≡◌, ◌≤◌, ◌<◌, ◌+◌, ◌-◌, ◌++◌, ◌∷◌, [], ℕ, List, All, length, take, drop, map, replicate, nat_lt, is_some, is_none, IsTrue, false, true, Some, None, slice_index_or, if◌then◌else◌};
 ghost use Rattle.std.specs.List.{list_any, range_with_len};
 ghost use Rattle.arrayvec.specs.ArrayVec.{array_vec_len};
 ghost use Rattle.mlp_arith.specs.Words.{clear};
@@ -34,26 +34,55 @@ fn has_step(steps: &[u8]) -> bool
 }
 
 /// The matrices that come with a restart, where there are rows.
-fn rows_with(profile: &Profile, substream: u8, restarts: bool) -> Option<ArrayVec<MatrixRow, 8>>
-    ensures { result ≡ rows_with substream profile.now restarts }
+fn rows_with(profile: &Profile, substream: u8) -> Option<ArrayVec<MatrixRow, 8>>
+    ensures { result ≡ rows_with substream profile.now true }
 {
-    if !restarts {
-        return None;
-    }
     let rows = rows(profile.mix, substream, profile.channels);
     if rows.len() != 0 { Some(rows) } else { None }
 }
 
 /// The steps that come with a restart, where one isn't 0.
-fn steps_with(profile: &Profile, substream: u8, restarts: bool) -> Option<ArrayVec<u8, 8>>
+fn steps_with(profile: &Profile, substream: u8) -> Option<ArrayVec<u8, 8>>
     requires { profile.now.depth ≤ 24 }
-    ensures { result ≡ steps_with substream profile.now restarts }
+    ensures { result ≡ steps_with substream profile.now true }
 {
-    if !restarts {
-        return None;
-    }
     let steps = steps(profile.mix, profile.depth, substream);
     if has_step(&steps) { Some(steps) } else { None }
+}
+
+/// Takes away what is there. Where nothing is, nothing of its size is written.
+fn take_away<T: Drop>(out: &mut Option<T>)
+    ensures { out.new ≡ None }
+{
+    if out.is_some() {
+        *out = None;
+    }
+}
+
+/// Puts matrices, where they come.
+fn put_rows(
+    profile: &Profile,
+    substream: u8,
+    restarts: bool,
+    out: &mut Option<ArrayVec<MatrixRow, 8>>,
+)
+    ensures { out.new ≡ rows_with substream profile.now restarts }
+{
+    if !restarts {
+        return take_away(out);
+    }
+    *out = rows_with(profile, substream);
+}
+
+/// Puts steps, where they come.
+fn put_steps(profile: &Profile, substream: u8, restarts: bool, out: &mut Option<ArrayVec<u8, 8>>)
+    requires { profile.now.depth ≤ 24 }
+    ensures { out.new ≡ steps_with substream profile.now restarts }
+{
+    if !restarts {
+        return take_away(out);
+    }
+    *out = steps_with(profile, substream);
 }
 
 /// The block size, where it isn't the one in force.
@@ -117,7 +146,7 @@ fn send_at(
     send_channel(force, step, filters, samples, past, codes)
 }
 
-/// What is sent of the channels of a block.
+/// What is sent of the channels of a block. What is given to them takes the place of what was.
 fn send_channels(
     substream: u8,
     state: &State,
@@ -129,7 +158,6 @@ fn send_channels(
     codes: &mut [FrameCode],
 )
     requires codable { IsCodable substream state.now steps.now filters frames.now }
-    requires none { given.old.items ≡ [] }
     requires codes { codes.old ≡ codes_in [] [] frames.now }
     ensures given { let before : Force = record { state = state.now; pasts = pasts.old } in
         given.new.items ≡ map (λ x. x.given) (channels_in substream before steps.now filters frames.now) }
@@ -138,6 +166,7 @@ fn send_channels(
     ensures pasts { let before : Force = record { state = state.now; pasts = pasts.old } in
         pasts.new ≡ pasts_with substream pasts.old (channels_in substream before steps.now filters frames.now) }
 {
+    given.clear();
     let first = usize::from(first_channel(substream));
     let end = usize::from(last_channel(substream)) + 1;
     for channel in first..end {
@@ -173,7 +202,7 @@ fn empty_frame(frame: &mut FrameCode)
     ensures { frame.new ≡ record { bypass = 0; codes = record { items = [] } } }
 {
     frame.bypass = 0;
-    frame.codes.clear();
+    frame.codes = ArrayVec::new();
 }
 
 /// Takes the codes of all frames away.
@@ -233,7 +262,7 @@ fn put_bypass(rows: &[MatrixRow], frames: &[CodedFrame], codes: &mut [FrameCode]
     }
 }
 
-/// The parameters of a block, and what is sent of its channels.
+/// The parameters of a block, in place of those in `out`, and what is sent of its channels.
 fn send_params(
     profile: &Profile,
     substream: u8,
@@ -242,19 +271,24 @@ fn send_params(
     frames: &[CodedFrame],
     pasts: &mut [Predictor<8, 4>; 8],
     codes: &mut [FrameCode],
-) -> Params
+    out: &mut Params,
+)
     requires sendable { IsSendable substream profile.now restarts state.now frames.now }
     requires codes { codes.old ≡ codes_in [] [] frames.now }
     ensures params { let before : Force = record { state = state.now; pasts = pasts.old } in
         let channels = sent_in substream profile.now restarts before frames.now in
-        result ≡ params_of substream profile.now restarts state.now (length frames.now) channels }
+        out.new ≡ params_of substream profile.now restarts state.now (length frames.now) channels }
     ensures codes { let before : Force = record { state = state.now; pasts = pasts.old } in
         codes.new ≡ codes_in [] (sent_in substream profile.now restarts before frames.now) frames.now }
     ensures pasts { let before : Force = record { state = state.now; pasts = pasts.old } in
         pasts.new ≡ pasts_with substream pasts.old (sent_in substream profile.now restarts before frames.now) }
 {
     let steps = steps(profile.mix, profile.depth, substream);
-    let mut channels: ArrayVec<Option<ChannelParams>, 8> = ArrayVec::new();
+    out.presence = None;
+    out.block_size = size_with(state, frames.len() as u16);
+    put_rows(profile, substream, restarts, &mut out.matrices);
+    take_away(&mut out.shifts);
+    put_steps(profile, substream, restarts, &mut out.steps);
     send_channels(
         substream,
         state,
@@ -262,36 +296,28 @@ fn send_params(
         !restarts,
         frames,
         pasts,
-        &mut channels,
+        &mut out.channels,
         codes,
     );
-    Params {
-        presence: None,
-        block_size: size_with(state, frames.len() as u16),
-        matrices: rows_with(profile, substream, restarts),
-        shifts: None,
-        steps: steps_with(profile, substream, restarts),
-        channels,
-    }
 }
 
-/// Puts parameters in force that are written with a restart, or where they give anything.
-fn put_params(restarts: bool, written: Params, state: &mut State) -> Option<Params>
+/// Puts parameters in force that are written with a restart, or where they give anything, and tells whether they are.
+fn put_params(restarts: bool, written: &Params, state: &mut State) -> bool
     requires state { IsState state.old }
-    requires params { Allowed (params_layout state.old) written }
-    ensures given { result ≡ params_with restarts written }
-    ensures state { state.new ≡ behind_params (params_with restarts written) state.old }
+    requires params { Allowed (params_layout state.old) written.now }
+    ensures given { (if result then Some written.now else None) ≡ params_with restarts written.now }
+    ensures state { state.new ≡ behind_params (params_with restarts written.now) state.old }
     ensures lawful { IsState state.new }
 {
-    if restarts || gives(&written) {
-        apply(state, &written);
-        return Some(written);
+    let is_written = restarts || gives(written);
+    if is_written {
+        apply(state, written);
     }
-    None
+    is_written
 }
 
-/// What is sent of a block but for its restart. The parameters are put in force.
-pub(crate) fn send_given(
+/// The parameters that are written of a block, in place of those in `out`, and its codes. The parameters are put in force.
+fn send_given(
     profile: &Profile,
     substream: u8,
     restarts: bool,
@@ -299,11 +325,12 @@ pub(crate) fn send_given(
     state: &mut State,
     pasts: &mut [Predictor<8, 4>; 8],
     codes: &mut [FrameCode],
-) -> Option<Params>
+    out: &mut Option<Params>,
+)
     requires sendable { IsSendable substream profile.now restarts state.old frames.now }
     requires codes { codes.old ≡ codes_in [] [] frames.now }
     ensures given { let before : Force = record { state = state.old; pasts = pasts.old } in
-        result ≡ given_in substream profile.now restarts before frames.now }
+        out.new ≡ given_in substream profile.now restarts before frames.now }
     ensures state { let before : Force = record { state = state.old; pasts = pasts.old } in
         state.new ≡ behind_params (given_in substream profile.now restarts before frames.now) state.old }
     ensures codes { let before : Force = record { state = state.old; pasts = pasts.old } in
@@ -311,10 +338,50 @@ pub(crate) fn send_given(
     ensures pasts { let before : Force = record { state = state.old; pasts = pasts.old } in
         pasts.new ≡ pasts_with substream pasts.old (sent_in substream profile.now restarts before frames.now) }
 {
-    let written = send_params(profile, substream, restarts, state, frames, pasts, codes);
-    let given = put_params(restarts, written, state);
+    let params = out.get_or_insert_default();
+    send_params(
+        profile, substream, restarts, state, frames, pasts, codes, params,
+    );
+    if !put_params(restarts, params, state) {
+        *out = None;
+    }
     put_bypass(&state.rows, frames, codes);
-    given
+}
+
+/// Fills the head and the codes of a block. What its restart, if it has one, puts in force is in force already.
+#[tactic(auto, unfolding(crate::specs::Blocks::block_sent))]
+pub(crate) fn fill_block(
+    profile: &Profile,
+    substream: u8,
+    restart: Option<Restart>,
+    frames: &[CodedFrame],
+    state: &mut State,
+    pasts: &mut [Predictor<8, 4>; 8],
+    codes: &mut [FrameCode],
+    head: &mut BlockHead,
+)
+    requires sendable { IsSendable substream profile.now (is_some restart) state.old frames.now }
+    requires codes { codes.old ≡ codes_in [] [] frames.now }
+    ensures state { let before : Force = record { state = state.old; pasts = pasts.old } in
+        let block = block_sent substream profile.now restart before frames.now in
+        state.new ≡ block.behind.state }
+    ensures pasts { let before : Force = record { state = state.old; pasts = pasts.old } in
+        let block = block_sent substream profile.now restart before frames.now in
+        pasts.new ≡ block.behind.pasts }
+    ensures codes { let before : Force = record { state = state.old; pasts = pasts.old } in
+        let block = block_sent substream profile.now restart before frames.now in
+        codes.new ≡ block.codes }
+    ensures head { let before : Force = record { state = state.old; pasts = pasts.old } in
+        let block = block_sent substream profile.now restart before frames.now in
+        head.new ≡ block.head }
+{
+    let restarts = restart.is_some();
+    head.restart = restart;
+    head.frames = frames.len() as u16;
+    let params = &mut head.params;
+    send_given(
+        profile, substream, restarts, frames, state, pasts, codes, params,
+    );
 }
 
 /// Puts a block behind those of a segment. What its restart, if it has one, puts in force is in force already.
@@ -340,22 +407,13 @@ pub(crate) fn send_block(
         let block = block_sent substream profile.now restart before frames.now in
         segment.new ≡ with_block block segment.old }
 {
-    let count = frames.len();
     let start = segment.codes.len();
-    push_frames(count, &mut segment.codes);
+    push_frames(frames.len(), &mut segment.codes);
+    let at = segment.blocks.len();
+    segment.blocks.push(BlockHead::default());
     let codes = &mut segment.codes.as_mut_slice()[start..];
-    let params = send_given(
-        profile,
-        substream,
-        restart.is_some(),
-        frames,
-        state,
-        pasts,
-        codes,
+    let head = &mut segment.blocks.as_mut_slice()[at];
+    fill_block(
+        profile, substream, restart, frames, state, pasts, codes, head,
     );
-    segment.blocks.push(BlockHead {
-        restart,
-        params,
-        frames: count as u16,
-    });
 }

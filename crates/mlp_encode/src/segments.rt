@@ -1,6 +1,7 @@
 //! The segment of a substream in a unit.
 ghost use Rattle.std.specs.Prelude.{◌≡◌, ◌≤◌, ◌<◌, ◌++◌, ◌∷◌, ◌+◌, [], Some, None, is_some, true, false, map, take, drop, length, IfSome};
 ghost use Rattle.std.specs.Option.{IsSomeAnd};
+ghost use Rattle.arrayvec.specs.ArrayVec.{array_vec_len};
 ghost use Rattle.mlp_layout.specs.Allowed.{Allowed};
 ghost use Rattle.mlp_params.specs.RestartHeader.{restart as restart_layout};
 ghost use Rattle.mlp_params.specs.InForce.{in_force};
@@ -10,7 +11,7 @@ ghost use Rattle.mlp_encode.specs.Numbers.{coded_channels};
 ghost use Rattle.mlp_encode.specs.Blocks.{Force, restart_sent, later_sent, segment_sent, empty};
 ghost use Rattle.mlp_encode.specs.Lawful.{SendsSegment, IsInForce, IsRestartOf, IsSentSegment};
 
-use crate::blocks::{renew_frames, send_block, send_given};
+use crate::blocks::{fill_block, renew_frames, send_block};
 use crate::numbers::FIRST_FRAMES;
 use arrayvec::ArrayVec;
 use mlp_fold::{CodedFrame, Profile, first_channel, last_channel};
@@ -81,24 +82,14 @@ fn send_restarted(
     send_block(profile, substream, None, later, state, pasts, segment);
 }
 
-/// Puts a head in the place of the only one.
-fn replace_head(head: BlockHead, heads: &mut [BlockHead])
-    requires { length heads.old ≡ 1 }
-    ensures { heads.new ≡ head ∷ [] }
+/// Leaves one head, whatever it says.
+fn leave_one(heads: &mut ArrayVec<BlockHead, 20>)
+    ensures { array_vec_len heads.new ≡ 1 }
 {
-    heads[0] = head;
-}
-
-/// Puts a head in the place of all that are there.
-fn replace_heads(head: BlockHead, heads: &mut ArrayVec<BlockHead, 20>)
-    ensures { heads.new.items ≡ head ∷ [] }
-{
-    if heads.len() == 1 {
-        replace_head(head, heads.as_mut_slice());
-        return;
+    heads.truncate(1);
+    if heads.is_empty() {
+        heads.push(BlockHead::default());
     }
-    heads.clear();
-    heads.push(head);
 }
 
 /// A segment against what is in force. Its one block takes the place of those that are there.
@@ -122,21 +113,10 @@ fn send_later(
         return;
     };
     renew_frames(frames.len(), &mut segment.codes);
-    let params = send_given(
-        profile,
-        substream,
-        false,
-        frames,
-        state,
-        pasts,
-        segment.codes.as_mut_slice(),
-    );
-    let head = BlockHead {
-        restart: None,
-        params,
-        frames: frames.len() as u16,
-    };
-    replace_heads(head, &mut segment.blocks);
+    leave_one(&mut segment.blocks);
+    let codes = segment.codes.as_mut_slice();
+    let head = &mut segment.blocks.as_mut_slice()[0];
+    fill_block(profile, substream, None, frames, state, pasts, codes, head);
 }
 
 /// Puts what is sent of a substream in a unit into `segment`. Behind it `state` is in force, and `pasts` are the latest

@@ -1,6 +1,5 @@
 use Rattle.std.proofs.Common.{◌≡◌, ◌-◌, ◌∙◌, ℕ, true, Option, Some, List, [], take, drop, length, sym, ap, subst, arith}
 use Rattle.std.proofs.lemmas.List.{take_all, length-drop, length-take-le}
-use Rattle.std.specs.Prelude.{is_some}
 use Rattle.mlp_syntax.specs.declared.restart.Restart.{Restart}
 use Rattle.mlp_syntax.specs.declared.segment.Segment.{Segment}
 use Rattle.mlp_params.specs.declared.state.State.{State}
@@ -9,10 +8,10 @@ use Rattle.mlp_predict.specs.Prediction.{Past}
 use Rattle.mlp_fifo.specs.Pace.{unit_of}
 use Rattle.mlp_fold.specs.declared.profile.Profile.{Profile}
 use Rattle.mlp_fold.specs.declared.coding.CodedFrame.{CodedFrame}
-use Rattle.mlp_encode.specs.Blocks.{Force, behind_params, given_in, sent_in, block_sent, with_block}
+use Rattle.mlp_encode.specs.Blocks.{Force, block_sent, with_block}
 use Rattle.mlp_encode.specs.Lawful.{IsSendable, IsInForce, SendsSegment}
-use Rattle.mlp_encode.proofs.SentChannels.{first_last, codes_in_count}
-use Rattle.mlp_encode.proofs.SentSegments.{Part, part_first, part_later, later_sendable, fresh_sendable, behind_in_force, restart_is}
+use Rattle.mlp_encode.proofs.SentChannels.{first_last}
+use Rattle.mlp_encode.proofs.SentSegments.{block_count, Part, part_first, part_later, later_sendable, fresh_sendable, behind_in_force, restart_is}
 use Rattle.mlp_encode.proofs.segments.send_restarted.Goals as goal
 
 some_is : (x y : State) (o : Option State) → o ≡ Some x → o ≡ Some y → x ≡ y
@@ -33,12 +32,6 @@ first_block p j r frames state s x h there is =
     let le = first_last j h.which in
     subst (λ (y : State). IsSendable j p true y (take 8 frames)) (sym (begun p r (length frames) x s h.frames.count there is))
     (fresh_sendable p j (take 8 frames) h.which h.shape h.top (part_first p frames h.frames) r (omega (arith, le, h.restarts.min, h.restarts.max)) h.restarts)
-
-block_count : (j : ℕ) (p : Profile) (restart : Option Restart) (before : Force) (frames : List CodedFrame) → length (block_sent j p restart before frames).codes ≡ length frames
-unfolding block_sent
-block_count j p restart before frames =
-    let given = given_in j p (is_some restart) before frames in
-    codes_in_count (behind_params given before.state).rows.items (sent_in j p (is_some restart) before frames) frames
 
 pub send_block-requires-clause-sendable : goal.send_block-requires-clause-sendable
 send_block-requires-clause-sendable c =
