@@ -1,5 +1,5 @@
 //! What is sent of a substream in a unit: its blocks, as a segment.
-ghost use Rattle.std.specs.Prelude.{◌≡◌, ◌≤◌, ◌<◌, ◌+◌, ◌-◌, ◌++◌, ◌∷◌, [], ℕ, List, All, length, take, drop, map, replicate, nat_lt, is_some, is_none, IsTrue, false, true, Some, None, slice_index_or, if◌then◌else◌};
+ghost use Rattle.std.specs.Prelude.{◌≡◌, ◌≤◌, ◌<◌, ◌+◌, ◌-◌, ◌++◌, ◌∷◌, [], ℕ, List, All, length, take, drop, map, replicate, nat_lt, is_some, is_none, IsTrue, false, true, Some, None, slice_index_or, ◌==◌, ◌||◌, not};
 ghost use Rattle.std.specs.List.{list_any, range_with_len};
 ghost use Rattle.arrayvec.specs.ArrayVec.{array_vec_len};
 ghost use Rattle.mlp_arith.specs.Words.{clear};
@@ -16,7 +16,7 @@ ghost use Rattle.mlp_fold.specs.declared.coding.CodedFrame.{CodedFrame};
 ghost use Rattle.mlp_encode.specs.Numbers.{low_zeros};
 ghost use Rattle.mlp_encode.specs.Coding.{Sent, column, channel_sent};
 ghost use Rattle.mlp_encode.specs.Pushed.{with_codes, with_bits};
-ghost use Rattle.mlp_encode.specs.Blocks.{Force, channels_in, rows_with, steps_with, size_with, gives, params_of, params_with, behind_params, codes_in, pasts_with, sent_in, given_in, block_sent, with_block};
+ghost use Rattle.mlp_encode.specs.Blocks.{Force, channels_in, rows_with, steps_with, size_with, params_of, params_with, behind_params, codes_in, pasts_with, sent_in, given_in, block_sent, with_block};
 ghost use Rattle.mlp_encode.specs.Lawful.{IsCodable, IsSendable};
 
 use crate::coding::{column, send_channel};
@@ -50,12 +50,20 @@ fn steps_with(profile: &Profile, substream: u8) -> Option<ArrayVec<u8, 8>>
     if has_step(&steps) { Some(steps) } else { None }
 }
 
+/// Puts nothing in the place of all that is there: a value of its size is written.
+#[inline(never)]
+fn erase<T: Drop>(out: &mut Option<T>)
+    ensures { out.new ≡ None }
+{
+    *out = None;
+}
+
 /// Takes away what is there. Where nothing is, nothing of its size is written.
 fn take_away<T: Drop>(out: &mut Option<T>)
     ensures { out.new ≡ None }
 {
     if out.is_some() {
-        *out = None;
+        erase(out);
     }
 }
 
@@ -103,16 +111,6 @@ fn has_given(channels: &[Option<ChannelParams>]) -> bool
     channels.iter().any(|given| given.is_some())
 }
 
-/// Whether parameters give anything.
-fn gives(params: &Params) -> bool
-    ensures { result ≡ gives params.now }
-{
-    params.block_size.is_some()
-        || params.matrices.is_some()
-        || params.steps.is_some()
-        || has_given(&params.channels)
-}
-
 /// What is sent of one of the channels.
 fn send_at(
     channel: usize,
@@ -146,7 +144,7 @@ fn send_at(
     send_channel(force, step, filters, samples, past, codes)
 }
 
-/// What is sent of the channels of a block. What is given to them takes the place of what was.
+/// What is sent of the channels of a block.
 fn send_channels(
     substream: u8,
     state: &State,
@@ -158,6 +156,7 @@ fn send_channels(
     codes: &mut [FrameCode],
 )
     requires codable { IsCodable substream state.now steps.now filters frames.now }
+    requires none { given.old.items ≡ [] }
     requires codes { codes.old ≡ codes_in [] [] frames.now }
     ensures given { let before : Force = record { state = state.now; pasts = pasts.old } in
         given.new.items ≡ map (λ x. x.given) (channels_in substream before steps.now filters frames.now) }
@@ -166,7 +165,6 @@ fn send_channels(
     ensures pasts { let before : Force = record { state = state.now; pasts = pasts.old } in
         pasts.new ≡ pasts_with substream pasts.old (channels_in substream before steps.now filters frames.now) }
 {
-    given.clear();
     let first = usize::from(first_channel(substream));
     let end = usize::from(last_channel(substream)) + 1;
     for channel in first..end {
@@ -262,58 +260,67 @@ fn put_bypass(rows: &[MatrixRow], frames: &[CodedFrame], codes: &mut [FrameCode]
     }
 }
 
-/// The parameters of a block, in place of those in `out`, and what is sent of its channels.
-fn send_params(
+/// Whether parameters are written: with a restart, or where they give anything.
+fn is_written(
+    restarts: bool,
+    state: &State,
+    frames: u16,
+    channels: &[Option<ChannelParams>],
+) -> bool
+    ensures { result ≡ (restarts || (not (state.now.block_size == frames) || list_any is_some channels.now)) }
+{
+    restarts || state.block_size != frames || has_given(channels)
+}
+
+/// Fills parameters.
+fn fill_params(
     profile: &Profile,
     substream: u8,
     restarts: bool,
     state: &State,
-    frames: &[CodedFrame],
-    pasts: &mut [Predictor<8, 4>; 8],
-    codes: &mut [FrameCode],
+    frames: u16,
+    channels: ArrayVec<Option<ChannelParams>, 8>,
     out: &mut Params,
 )
-    requires sendable { IsSendable substream profile.now restarts state.now frames.now }
-    requires codes { codes.old ≡ codes_in [] [] frames.now }
-    ensures params { let before : Force = record { state = state.now; pasts = pasts.old } in
-        let channels = sent_in substream profile.now restarts before frames.now in
-        out.new ≡ params_of substream profile.now restarts state.now (length frames.now) channels }
-    ensures codes { let before : Force = record { state = state.now; pasts = pasts.old } in
-        codes.new ≡ codes_in [] (sent_in substream profile.now restarts before frames.now) frames.now }
-    ensures pasts { let before : Force = record { state = state.now; pasts = pasts.old } in
-        pasts.new ≡ pasts_with substream pasts.old (sent_in substream profile.now restarts before frames.now) }
+    requires { profile.now.depth ≤ 24 }
+    ensures { let empty = params_of substream profile.now restarts state.now frames [] in
+        out.new ≡ record empty { channels = channels } }
 {
-    let steps = steps(profile.mix, profile.depth, substream);
     out.presence = None;
-    out.block_size = size_with(state, frames.len() as u16);
+    out.block_size = size_with(state, frames);
     put_rows(profile, substream, restarts, &mut out.matrices);
     take_away(&mut out.shifts);
     put_steps(profile, substream, restarts, &mut out.steps);
-    send_channels(
-        substream,
-        state,
-        &steps,
-        !restarts,
-        frames,
-        pasts,
-        &mut out.channels,
-        codes,
-    );
+    out.channels = channels;
 }
 
-/// Puts parameters in force that are written with a restart, or where they give anything, and tells whether they are.
-fn put_params(restarts: bool, written: &Params, state: &mut State) -> bool
+/// Puts the parameters of a block, where they are written, in place of those in `out`, and in force.
+fn put_params(
+    profile: &Profile,
+    substream: u8,
+    restarts: bool,
+    frames: u16,
+    channels: ArrayVec<Option<ChannelParams>, 8>,
+    state: &mut State,
+    out: &mut Option<Params>,
+)
+    requires depth { profile.now.depth ≤ 24 }
     requires state { IsState state.old }
-    requires params { Allowed (params_layout state.old) written.now }
-    ensures given { (if result then Some written.now else None) ≡ params_with restarts written.now }
-    ensures state { state.new ≡ behind_params (params_with restarts written.now) state.old }
-    ensures lawful { IsState state.new }
+    requires params { let empty = params_of substream profile.now restarts state.old frames [] in
+        Allowed (params_layout state.old) (record empty { channels = channels }) }
+    ensures given { let empty = params_of substream profile.now restarts state.old frames [] in
+        out.new ≡ params_with restarts (record empty { channels = channels }) }
+    ensures state { let empty = params_of substream profile.now restarts state.old frames [] in
+        state.new ≡ behind_params (params_with restarts (record empty { channels = channels })) state.old }
 {
-    let is_written = restarts || gives(written);
-    if is_written {
-        apply(state, written);
+    if !is_written(restarts, state, frames, &channels) {
+        return take_away(out);
     }
-    is_written
+    let params = out.get_or_insert_default();
+    fill_params(
+        profile, substream, restarts, state, frames, channels, params,
+    );
+    apply(state, params);
 }
 
 /// The parameters that are written of a block, in place of those in `out`, and its codes. The parameters are put in force.
@@ -338,13 +345,20 @@ fn send_given(
     ensures pasts { let before : Force = record { state = state.old; pasts = pasts.old } in
         pasts.new ≡ pasts_with substream pasts.old (sent_in substream profile.now restarts before frames.now) }
 {
-    let params = out.get_or_insert_default();
-    send_params(
-        profile, substream, restarts, state, frames, pasts, codes, params,
+    let steps = steps(profile.mix, profile.depth, substream);
+    let mut channels: ArrayVec<Option<ChannelParams>, 8> = ArrayVec::new();
+    send_channels(
+        substream,
+        state,
+        &steps,
+        !restarts,
+        frames,
+        pasts,
+        &mut channels,
+        codes,
     );
-    if !put_params(restarts, params, state) {
-        *out = None;
-    }
+    let count = frames.len() as u16;
+    put_params(profile, substream, restarts, count, channels, state, out);
     put_bypass(&state.rows, frames, codes);
 }
 
