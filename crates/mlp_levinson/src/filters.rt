@@ -1,11 +1,20 @@
 //! The filter of computed coefficients.
 
-ghost use Rattle.std.specs.Prelude.{◌≡◌, ◌<◌, ◌≤◌, ◌-◌, ◌^◌, length, All, map};
+ghost use Rattle.std.specs.Prelude.{◌≡◌, ◌<◌, ◌≤◌, ◌-◌, ◌^◌, pos, ◌+ℤ◌, ◌*ℤ◌, length, All, map};
 ghost use Rattle.std.specs.List.{list_all};
 ghost use Rattle.mlp_levinson.specs.Computed.{rounded, magnitude, has_bits, serves, greatest_shift, fewest_bits, filter_of, IsSmall};
 
 use arrayvec::ArrayVec;
 use mlp_syntax::Filter;
+
+/// A coefficient times 2^shift, and half of 2^20 more.
+fn scaled(shift: u8, coefficient: i64) -> i64
+    requires shift { shift < 16 }
+    requires small { IsSmall coefficient }
+    ensures { result ≡ coefficient *ℤ pos (2 ^ shift) +ℤ pos (2 ^ 19) }
+{
+    coefficient * (1 << shift) + 524288
+}
 
 /// A coefficient over 2^shift, rounded to the nearest.
 fn rounded(shift: u8, coefficient: i64) -> i32
@@ -13,7 +22,7 @@ fn rounded(shift: u8, coefficient: i64) -> i32
     requires small { IsSmall coefficient }
     ensures { result ≡ rounded shift coefficient }
 {
-    ((coefficient * (1 << shift) + 524288) >> 20) as i32
+    (scaled(shift, coefficient) >> 20) as i32
 }
 
 /// All coefficients over 2^shift, rounded to the nearest.
@@ -86,6 +95,16 @@ fn fewest_bits(numbers: &[i32]) -> u8
     1
 }
 
+/// Whether a coefficient over 2^shift, rounded to the nearest, has 16 signed bits.
+fn is_served(shift: u8, coefficient: i64) -> bool
+    requires shift { shift < 16 }
+    requires small { IsSmall coefficient }
+    ensures { result ≡ has_bits 16 (rounded shift coefficient) }
+{
+    let scaled = scaled(shift, coefficient);
+    -34359738368 <= scaled && scaled < 34359738368
+}
+
 /// Whether all coefficients over 2^shift have 16 signed bits.
 fn serves(shift: u8, coefficients: &[i64]) -> bool
     requires shift { shift < 16 }
@@ -93,7 +112,7 @@ fn serves(shift: u8, coefficients: &[i64]) -> bool
     ensures { result ≡ serves shift coefficients.now }
 {
     for j in 0..coefficients.len() {
-        if !has_bits(16, rounded(shift, coefficients[j])) {
+        if !is_served(shift, coefficients[j]) {
             return false;
         }
     }
