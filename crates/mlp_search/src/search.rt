@@ -318,6 +318,7 @@ fn with_others(
 }
 
 /// The best of the filters in force, and with `filters` of all, over buffers for the block and 8 values more.
+#[inline(never)]
 fn best_of(
     state: &ChannelState,
     history: &Predictor<8, 4>,
@@ -362,6 +363,67 @@ fn best_of(
     with_others(state, history, step, samples, &line, values, first)
 }
 
+/// The same over buffers of `N` values.
+#[inline(always)]
+fn best_within<const N: usize>(
+    state: &ChannelState,
+    history: &Predictor<8, 4>,
+    step: u8,
+    filters: bool,
+    samples: &[i32],
+) -> Option<Choice>
+    requires state { IsChannelState state.now }
+    requires step { step ≤ 8 }
+    requires few { length samples.now ≤ 160 }
+    requires samples { All Is26 samples.now }
+    requires whole { All (λ x. clear step x ≡ x) samples.now }
+    requires room { 8 + length samples.now ≤ N }
+    requires most { N ≤ 168 }
+    ensures { result ≡ least_from (cost_of state.now history.now step true samples.now) None
+        (flat_map (λ n. with_books n (middle_for state.now history.now step samples.now n))
+        (range_with_len 0 (if filters then 18 else 1))) }
+{
+    let end = 8 + samples.len();
+    let mut whole = [0; N];
+    let mut high = [0; N];
+    let mut low = [0; N];
+    let mut values = [0; N];
+    best_of(
+        state,
+        history,
+        step,
+        filters,
+        samples,
+        &mut whole[..end],
+        &mut high[..end],
+        &mut low[..end],
+        &mut values[..samples.len()],
+    )
+}
+
+/// The same over buffers that are cleared for a short block in a quarter of the time.
+fn best_for(
+    state: &ChannelState,
+    history: &Predictor<8, 4>,
+    step: u8,
+    filters: bool,
+    samples: &[i32],
+) -> Option<Choice>
+    requires state { IsChannelState state.now }
+    requires step { step ≤ 8 }
+    requires few { length samples.now ≤ 160 }
+    requires samples { All Is26 samples.now }
+    requires whole { All (λ x. clear step x ≡ x) samples.now }
+    ensures { result ≡ least_from (cost_of state.now history.now step true samples.now) None
+        (flat_map (λ n. with_books n (middle_for state.now history.now step samples.now n))
+        (range_with_len 0 (if filters then 18 else 1))) }
+{
+    if samples.len() <= 40 {
+        return best_within::<48>(state, history, step, filters, samples);
+    }
+    best_within::<168>(state, history, step, filters, samples)
+}
+
 /// The choice for a block of 1 to 160 samples: the first, by filter, book, low bits and offset, of those that cost least.
 /// The samples have 26 signed bits, the low `step` of which are 0, and the step is at most 8. Without `filters` only
 /// those in force are looked at, which then must be absent.
@@ -385,21 +447,6 @@ pub fn choose(
     ensures costs { cost_of state.now history.now step true samples.now result ≡ Some result.bits }
     ensures cheap { result.bits ≤ 34 + 26 * length samples.now }
 {
-    let end = 8 + samples.len();
-    let mut whole = [0; 168];
-    let mut high = [0; 168];
-    let mut low = [0; 168];
-    let mut values = [0; 160];
-    let best = best_of(
-        state,
-        history,
-        step,
-        filters,
-        samples,
-        &mut whole[..end],
-        &mut high[..end],
-        &mut low[..end],
-        &mut values[..samples.len()],
-    );
+    let best = best_for(state, history, step, filters, samples);
     best.unwrap_or(choice_of(0, 0, 0, 0))
 }

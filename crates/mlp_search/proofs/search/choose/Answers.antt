@@ -10,8 +10,8 @@ use Rattle.mlp_search.proofs.search.choose.Goals as goal
 is_chosen : (c : goal.After-unwrap_or) → c.unwrap_or.result ≡ chosen c.args.state.now c.args.history.now c.args.step c.args.filters c.args.samples.now
 is_chosen c =
     c.unwrap_or.ensures
-    ∙ ap (unwrap_or c.best_of-best.result) c.choice_of.ensures
-    ∙ found_is c.args.state.now c.args.history.now c.args.step c.args.samples.now c.args.filters c.best_of-best.result c.best_of-best.ensures
+    ∙ ap (unwrap_or c.best_for-best.result) c.choice_of.ensures
+    ∙ found_is c.args.state.now c.args.history.now c.args.step c.args.samples.now c.args.filters c.best_for-best.result c.best_for-best.ensures
 
 is_least : (c : goal.After-unwrap_or) → IsLeast (cost_of c.args.state.now c.args.history.now c.args.step c.args.filters c.args.samples.now) c.unwrap_or.result
 is_least c =
