@@ -111,7 +111,42 @@ fn has_given(channels: &[Option<ChannelParams>]) -> bool
     channels.iter().any(|given| given.is_some())
 }
 
-/// What is sent of one of the channels.
+/// What is sent of one of the channels, over buffers of `N` values.
+#[inline(always)]
+fn send_within<const N: usize>(
+    channel: usize,
+    force: &ChannelState,
+    step: u8,
+    filters: bool,
+    frames: &[CodedFrame],
+    past: &mut Predictor<8, 4>,
+    codes: &mut [FrameCode],
+) -> Option<ChannelParams>
+    requires channel { channel < 8 }
+    requires force { IsChannelState force.now }
+    requires step { step ≤ 8 }
+    requires few { length frames.now ≤ N }
+    requires most { N ≤ 160 }
+    requires samples { All Is26 (column channel frames.now) }
+    requires whole { All (λ x. clear step x ≡ x) (column channel frames.now) }
+    requires fir { filters ≡ false → order_of force.now.fir ≡ 0 }
+    requires iir { filters ≡ false → order_of force.now.iir ≡ 0 }
+    requires count { length frames.now ≡ length codes.old }
+    requires room { All (λ f. array_vec_len f.codes < 8) codes.old }
+    ensures given { let sent = channel_sent force.now past.old step filters (column channel frames.now) in
+        result ≡ sent.given }
+    ensures codes { let sent = channel_sent force.now past.old step filters (column channel frames.now) in
+        codes.new ≡ with_codes sent.codes codes.old }
+    ensures past { let sent = channel_sent force.now past.old step filters (column channel frames.now) in
+        past.new ≡ sent.past }
+{
+    let mut line = [0; N];
+    let samples = &mut line[..frames.len()];
+    column(channel, frames, samples);
+    send_channel::<N>(force, step, filters, samples, past, codes)
+}
+
+/// What is sent of one of the channels. The buffers for a short block are short.
 fn send_at(
     channel: usize,
     force: &ChannelState,
@@ -138,10 +173,10 @@ fn send_at(
     ensures past { let sent = channel_sent force.now past.old step filters (column channel frames.now) in
         past.new ≡ sent.past }
 {
-    let mut line = [0; 160];
-    let samples = &mut line[..frames.len()];
-    column(channel, frames, samples);
-    send_channel(force, step, filters, samples, past, codes)
+    if frames.len() <= 40 {
+        return send_within::<40>(channel, force, step, filters, frames, past, codes);
+    }
+    send_within::<160>(channel, force, step, filters, frames, past, codes)
 }
 
 /// What is sent of the channels of a block.

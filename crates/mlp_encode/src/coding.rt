@@ -108,8 +108,9 @@ fn push_codes(book: u8, choice: &Choice, step: u8, residuals: &[i32], frames: &m
     push_residuals(book, choice, step, residuals, frames);
 }
 
-/// What is sent of a channel in a block: its parameters, and its codes, which are put behind those of the frames.
-pub(crate) fn send_channel(
+/// What is sent of a channel in a block: its parameters, and its codes, which are put behind those of the frames. The
+/// residuals stand in a buffer of `N` values.
+pub(crate) fn send_channel<const N: usize>(
     force: &ChannelState,
     step: u8,
     filters: bool,
@@ -119,7 +120,8 @@ pub(crate) fn send_channel(
 ) -> Option<ChannelParams>
     requires force { IsChannelState force.now }
     requires step { step ≤ 8 }
-    requires few { length samples.now ≤ 160 }
+    requires few { length samples.now ≤ N }
+    requires most { N ≤ 160 }
     requires samples { All Is26 samples.now }
     requires whole { All (λ x. clear step x ≡ x) samples.now }
     requires fir { filters ≡ false → order_of force.now.fir ≡ 0 }
@@ -133,7 +135,7 @@ pub(crate) fn send_channel(
     ensures past { let sent = channel_sent force.now past.old step filters samples.now in
         past.new ≡ sent.past }
 {
-    let mut line = [0; 160];
+    let mut line = [0; N];
     let residuals = &mut line[..samples.len()];
     let choice = choose(force, past, step, filters, samples);
     let given = reduced(force, past, step, &choice, samples, residuals);

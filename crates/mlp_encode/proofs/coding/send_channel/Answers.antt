@@ -12,14 +12,14 @@ some_is : {A : Type 0} (x y : A) → Some x ≡ Some y → x ≡ y
 some_is x y e = cc
 
 pub returns-clause-given : goal.returns-clause-given
-returns-clause-given c =
+returns-clause-given g c =
     let k = c.choose-choice.result in
     let p = has_cost c.args.force.now c.args.past.now c.args.step true c.args.samples.now k k.bits c.choose-choice.ensures.costs in
     let is = channel_is c.args.force.now c.args.past.now c.args.step c.args.filters c.args.samples.now k p.pair c.requires.force c.choose-choice.ensures.chosen p.there in
     c.reduced-given.ensures.given ∙ sym (ap (λ (x : Sent). x.given) is)
 
 pub returns-clause-codes : goal.returns-clause-codes
-returns-clause-codes c =
+returns-clause-codes g c =
     let k = c.choose-choice.result in
     let p = has_cost c.args.force.now c.args.past.now c.args.step true c.args.samples.now k k.bits c.choose-choice.ensures.costs in
     let is = channel_is c.args.force.now c.args.past.now c.args.step c.args.filters c.args.samples.now k p.pair c.requires.force c.choose-choice.ensures.chosen p.there in
@@ -30,7 +30,7 @@ returns-clause-codes c =
     ∙ sym (ap (λ (x : Sent). with_codes x.codes c.args.frames.now) is)
 
 pub returns-clause-past : goal.returns-clause-past
-returns-clause-past c =
+returns-clause-past g c =
     let k = c.choose-choice.result in
     let p = has_cost c.args.force.now c.args.past.now c.args.step true c.args.samples.now k k.bits c.choose-choice.ensures.costs in
     let is = channel_is c.args.force.now c.args.past.now c.args.step c.args.filters c.args.samples.now k p.pair c.requires.force c.choose-choice.ensures.chosen p.there in
