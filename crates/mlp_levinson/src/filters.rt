@@ -137,6 +137,7 @@ fn greatest_shift(coefficients: &[i64]) -> u8
 }
 
 /// The filter of coefficients over 2^20, with as many fraction bits as leave all of them 16 signed bits.
+#[inline(always)]
 pub fn filter_of(coefficients: &[i64]) -> Filter<8>
     requires few { length coefficients.now ≤ 8 }
     requires small { All IsSmall coefficients.now }

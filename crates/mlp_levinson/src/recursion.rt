@@ -125,6 +125,7 @@ impl Level {
     }
 
     /// One order more.
+    #[inline(always)]
     pub fn advance(&mut self, lags: &[i64; 9])
         requires few { length self.old.coefficients.items < 8 }
         requires small { All IsSmall self.old.coefficients.items }
