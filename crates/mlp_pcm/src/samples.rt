@@ -9,6 +9,7 @@ use byteorder::{ByteOrder, LittleEndian};
 use mlp_syntax::{Frames, UnitBytes};
 
 /// The sample in the first bytes, as one of 24 bits.
+#[inline(always)]
 #[tactic(auto, unfolding(crate::specs::Samples::sample_in))]
 fn sample(bytes: &[u8], width: u8) -> i32
     requires bytes { width ≤ length bytes.now }
@@ -31,6 +32,7 @@ pub(crate) fn behind(bytes: &[u8], size: usize) -> &[u8]
 }
 
 /// The samples of a frame, and 0 in the other places.
+#[inline(always)]
 fn row(bytes: &[u8], width: u8, channels: u8) -> [i32; 8]
     requires bytes { channels * width ≤ length bytes.now }
     requires width { (width ≡ 2) ⊎ (width ≡ 3) }
@@ -56,6 +58,7 @@ fn clear(sample: i32, depth: u8) -> bool
 }
 
 /// Whether that holds of all samples.
+#[inline(always)]
 fn all_clear(samples: &[i32], depth: u8) -> bool
     requires { depth ≤ 24 }
     ensures { result ≡ are_clear depth samples.now }
@@ -63,25 +66,32 @@ fn all_clear(samples: &[i32], depth: u8) -> bool
     samples.iter().all(|sample| clear(*sample, depth))
 }
 
-/// Puts a row at a place, over the one that is there or behind the last one.
-#[inline]
-fn put_row(row: [i32; 8], place: usize, rows: &mut ArrayVec<[i32; 8], 160>)
-    requires within { place ≤ array_vec_len rows.old }
-    requires most { place < 160 }
-    ensures front { take (place + 1) rows.new.items ≡ take place rows.old.items ++ row ∷ [] }
-    ensures there { place + 1 ≤ array_vec_len rows.new }
+/// Makes so many rows.
+#[inline(never)]
+fn resize(count: usize, rows: &mut ArrayVec<[i32; 8], 160>)
+    requires { count ≤ 160 }
+    ensures { array_vec_len rows.new ≡ count }
 {
-    if place == rows.len() {
-        rows.push(row);
-        return;
+    rows.truncate(count);
+    while rows.len() < count {
+        rows.push([0; 8]);
     }
+}
+
+/// Puts a row over the one at a place.
+#[inline(always)]
+fn put_row(row: [i32; 8], place: usize, rows: &mut ArrayVec<[i32; 8], 160>)
+    requires { place < array_vec_len rows.old }
+    ensures front { take (place + 1) rows.new.items ≡ take place rows.old.items ++ row ∷ [] }
+    ensures length { array_vec_len rows.new ≡ array_vec_len rows.old }
+{
     let there = rows.as_mut_slice();
     there[place] = row;
 }
 
 /// Replaces the rows of `out` by the frames of these bytes,
 /// up to the first that has a sample whose low bits aren't 0.
-#[inline]
+#[inline(always)]
 #[tactic(auto, unfolding(crate::specs::Samples::pieces))]
 fn unpack_frames(
     bytes: &[u8],
@@ -99,6 +109,7 @@ fn unpack_frames(
 {
     let size = channels as usize * width as usize;
     let count = bytes.len() / size;
+    resize(count, &mut out.rows);
     let mut rest = bytes;
     for frame in 0..count {
         let row = row(rest, width, channels);
@@ -109,12 +120,11 @@ fn unpack_frames(
         put_row(row, frame, &mut out.rows);
         rest = behind(rest, size);
     }
-    out.rows.truncate(count);
     Ok(())
 }
 
-/// The same, with a loop of its own for two channels.
-#[inline]
+/// The same, with a loop of its own for each number of channels.
+#[inline(always)]
 fn unpack_channels(
     bytes: &[u8],
     width: u8,
@@ -129,10 +139,16 @@ fn unpack_channels(
     ensures ok { OnOk result (AreUnpacked width depth channels bytes.now out.new.rows.items) }
     ensures err { IfErr result (AreUnpackedTo width depth channels bytes.now out.new.rows.items) }
 {
-    if channels == 2 {
-        return unpack_frames(bytes, width, depth, 2, out);
+    match channels {
+        1 => unpack_frames(bytes, width, depth, 1, out),
+        2 => unpack_frames(bytes, width, depth, 2, out),
+        3 => unpack_frames(bytes, width, depth, 3, out),
+        4 => unpack_frames(bytes, width, depth, 4, out),
+        5 => unpack_frames(bytes, width, depth, 5, out),
+        6 => unpack_frames(bytes, width, depth, 6, out),
+        7 => unpack_frames(bytes, width, depth, 7, out),
+        _ => unpack_frames(bytes, width, depth, 8, out),
     }
-    unpack_frames(bytes, width, depth, channels, out)
 }
 
 /// Replaces `out` by the frames of these bytes, which have whole frames of 1 to 8 channels, at most 160. A sample has 2

@@ -26,7 +26,7 @@ loop-frame-preserved c =
       channels = v.channels;
       enough = left_more size n i rest _ c.loop-frame-test.true c.behind-rest.ensures v.enough;
       done = ap (λ xs. xs ++ pieces value size (n - (i + 1)) c.behind-rest.result.now) p ∙ done_more value size n i before rest _ _ c.loop-frame-test.true c.behind-rest.ensures v.done;
-      there = c.put_row.ensures.there;
+      there = c.put_row.ensures.length ∙ v.there;
       frames = ap length p ∙ length-append before (value rest ∷ []) ∙ ap (λ m. m + 1) v.frames;
       clear = subst (λ xs. IsTrue (list_all (are_clear c.args.depth) xs)) (sym p)
           (all_more (are_clear c.args.depth) before (value rest) v.clear (ap (are_clear c.args.depth) (sym c.row-row.ensures) ∙ sym c.all_clear.ensures ∙ c.if-not-all_clear.false));
