@@ -4,4 +4,4 @@ use Rattle.mlp_bits.proofs.writer.BitWriter.clear.Goals as goal
 
 pub returns : goal.returns
 unfolding bits_of bits
-returns c = rw c.clear.ensures refl
+returns c = refl
