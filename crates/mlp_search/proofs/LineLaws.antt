@@ -3,7 +3,7 @@ use Rattle.std.proofs.Common.{◌≡◌, ℕ, zero, suc, ◌+◌, ◌-◌, ◌*�
 use Rattle.std.proofs.Common.{[], ◌∷◌, ◌++◌, length, take, drop, map, get_or, reverse, arith, refl, sym, ◌∙◌, ap, subst, append_assoc, to_z, of_z, w32}
 use Rattle.std.specs.Prelude.{All, FitsSigned, unsigned_abs}
 use Rattle.std.proofs.Math.IntN.{*ℤ_comm, *ℤ-zero, suc_ℤ-*ℤ}
-use Rattle.std.proofs.Math.Nat.{div-div-eq-div-mul, div-le_self, mul-le-mul, mul-le-mul_right}
+use Rattle.std.proofs.Math.Nat.{div-div-eq-div-mul, div-le_self, mul-le-mul, mul-le-mul_left, mul-le-mul_right}
 use Rattle.std.proofs.Math.Pow.{pow_pos, pow-add}
 use Rattle.std.proofs.lemmas.Int.{ints, unsigned_abs-mul, to_z-of_z, int_wrap_fits}
 use Rattle.std.proofs.lemmas.List.{reverse-append, get_or-drop, get_or-reverse, drop-take, take-take, take-append-drop, length-drop, length-reverse, take-map, map-append, ext_get_or}
@@ -15,8 +15,8 @@ use Rattle.mlp_arith.proofs.Residues.{floor_by-add, clear_le, lt_clear}
 use Rattle.mlp_predict.specs.Prediction.{dot, predicted, residuals_of, IsCoefficient}
 use Rattle.mlp_predict.proofs.AloneLaws.{fir_alone, past_by}
 use Rattle.mlp_residual.proofs.Codes.{floor_multiple}
-use Rattle.mlp_search.specs.Folded.{stepped}
-use Rattle.mlp_search.specs.Lines.{low_part, IsLight}
+use Rattle.mlp_search.specs.Folded.{sizes, stepped}
+use Rattle.mlp_search.specs.Lines.{low_part, AreNear, AreShort, IsLight}
 
 -- ---- products
 
@@ -277,6 +277,29 @@ map_reverse f (x ∷ xs) =
 
 pub before_small : (xs : List ℤ) (n : ℕ) → All Is26 xs → All Is26 (reverse (take n xs))
 before_small xs n h = all_reverse Is26 (take n xs) (All-take Is26 n xs h)
+
+-- a sum of products of values that are no farther from 0 than this
+dot_near : (far : ℕ) (cs vs : List ℤ) → AreNear far vs → unsigned_abs (dot cs vs) ≤ sizes cs * far
+dot_near far [] vs near = omega (arith, ints)
+dot_near far (c ∷ cs) [] near = omega (arith, ints)
+dot_near far (c ∷ cs) (v ∷ vs) near =
+    let first : unsigned_abs c * unsigned_abs v ≤ unsigned_abs c * far = mul-le-mul_left (unsigned_abs c) (near 0 v (omega arith)) in
+    let size : unsigned_abs (c *ℤ v) ≡ unsigned_abs c * unsigned_abs v = unsigned_abs-mul c v in
+    let later = dot_near far cs vs (λ i d l. near (suc i) d (omega (arith, l))) in
+    let both : unsigned_abs (c *ℤ v +ℤ dot cs vs) ≤ unsigned_abs (c *ℤ v) + unsigned_abs (dot cs vs) = omega (arith, ints) in
+    let parts : (unsigned_abs c + sizes cs) * far ≡ unsigned_abs c * far + sizes cs * far = mul-add (unsigned_abs c) (sizes cs) far in
+    omega (arith, both, size, first, later, parts)
+  where
+    mul-add : (a b n : ℕ) → (a + b) * n ≡ a * n + b * n
+    mul-add a b n = grind arith
+
+pub short_near : (far : ℕ) (cs whole : List ℤ) → AreNear far whole → sizes cs * far ≤ 2013265920 → AreShort cs whole
+short_near far cs whole near le n =
+    let P : ℤ → Type 0 = λ (v : ℤ). unsigned_abs v ≤ far in
+    omega (arith, le, dot_near far cs (reverse (take n whole)) (all_reverse P (take n whole) (All-take P n whole near)))
+
+pub short_light : (cs whole : List ℤ) → All IsLight cs → All Is26 whole → length cs ≤ 4 → AreShort cs whole
+short_light cs whole light small few n = light_bound cs (reverse (take n whole)) light (before_small whole n small) few
 
 pub before_parts : (f : ℤ → ℤ) (xs parts : List ℤ) (n : ℕ) → parts ≡ map f xs → reverse (take n parts) ≡ map f (reverse (take n xs))
 before_parts f xs parts n e = ap (λ (ys : List ℤ). reverse (take n ys)) e ∙ ap reverse (take-map f n xs) ∙ sym (map_reverse f (take n xs))

@@ -1,8 +1,8 @@
 -- A block in one line behind the latest outputs, the oldest first, in quantisation steps.
-use Rattle.std.specs.Prelude.{◌≡◌, ℕ, List, [], ◌∷◌, ◌++◌, map, length, take, drop, reverse, All, ℤ, pos, neg_ℤ, ◌-ℤ◌, ◌≤ℤ◌}
+use Rattle.std.specs.Prelude.{◌≡◌, ℕ, List, [], ◌∷◌, ◌++◌, map, length, take, drop, reverse, All, ℤ, pos, neg_ℤ, ◌-ℤ◌, ◌≤ℤ◌, ◌≤◌, unsigned_abs}
 use Rattle.mlp_arith.specs.Words.{floor_by, clear}
 use Rattle.mlp_arith.specs.Ranges.{Is26}
-use Rattle.mlp_predict.specs.Prediction.{Filters, Past, residuals_of}
+use Rattle.mlp_predict.specs.Prediction.{Filters, Past, dot, residuals_of}
 use Rattle.mlp_predict.specs.Filters.{scaled}
 use Rattle.mlp_predict.specs.Lines.{past_in}
 use Rattle.mlp_search.specs.declared.line.Line.{Line}
@@ -21,9 +21,18 @@ pub record IsLine (step : ℕ) (past : Past) (samples whole high low : List ℤ)
   pub high_parts : high ≡ map (floor_by 13) whole
   pub low_parts : low ≡ map low_part whole
 
+-- no value is farther from 0 than this
+abbrev pub AreNear : ℕ → List ℤ → Type 0
+AreNear far vs = All (λ v. unsigned_abs v ≤ far) vs
+
 -- these are the parts of a line
-abbrev pub IsIn : ℕ → Past → List ℤ → Line → Type 0
-IsIn step past samples line = IsLine step past samples line.whole.now line.high.now line.low.now
+pub record IsIn (step : ℕ) (past : Past) (samples : List ℤ) (line : Line) : Type 0 where
+  pub parts : IsLine step past samples line.whole.now line.high.now line.low.now
+  pub near : AreNear line.far line.whole.now
+
+-- no sum of so many last values, times these coefficients, is too far from 0 for 32 bits
+abbrev pub AreShort : List ℤ → List ℤ → Type 0
+AreShort fir whole = (n : ℕ) → unsigned_abs (dot fir (reverse (take n whole))) ≤ 2013265920
 
 -- a FIR of these coefficients, without an IIR
 abbrev pub alone_by : List ℤ → ℕ → Filters

@@ -1,15 +1,15 @@
 //! What filters without an IIR leave of a block that lies in one line behind the latest outputs.
 
-ghost use Rattle.std.specs.Prelude.{◌≡◌, ℕ, ◌≤◌, ◌<◌, ◌+◌, [], List, ◌++◌, length, map, take, reverse, get_or, All, FitsSigned, IsTrue, ℤ, pos, ◌-ℤ◌};
+ghost use Rattle.std.specs.Prelude.{◌≡◌, ℕ, ◌≤◌, ◌<◌, ◌+◌, [], List, ◌++◌, length, map, take, reverse, get_or, All, FitsSigned, IsTrue, ℤ, pos, ◌-ℤ◌, unsigned_abs};
 ghost use Rattle.std.specs.Int.{w32};
 ghost use Rattle.mlp_arith.specs.Words.{floor_by, clear, wrap};
 ghost use Rattle.mlp_arith.specs.Ranges.{Is26};
 ghost use Rattle.mlp_predict.specs.Prediction.{Past, dot, IsCoefficient};
 ghost use Rattle.mlp_predict.specs.Filters.{AreFilters};
 ghost use Rattle.mlp_predict.specs.Lines.{filters_in};
-ghost use Rattle.mlp_search.specs.Folded.{stepped};
+ghost use Rattle.mlp_search.specs.Folded.{sizes, stepped};
 ghost use Rattle.mlp_search.specs.Candidates.{residuals_for};
-ghost use Rattle.mlp_search.specs.Lines.{low_part, alone_by, left_in, IsLight, IsLine, IsIn};
+ghost use Rattle.mlp_search.specs.Lines.{low_part, alone_by, left_in, AreNear, AreShort, IsLight, IsLine, IsIn};
 
 use crate::pair::PairRef;
 use crate::reduction::count_steps;
@@ -21,6 +21,8 @@ use mlp_predict::Predictor;
 pub struct Line<'a> {
     /// Whether that is so: the outputs must be whole steps of 26 bits.
     pub narrow: bool,
+    /// No value is farther from 0.
+    pub far: u32,
     pub whole: &'a [i32],
     /// All over 2^13, rounded down.
     pub high: &'a [i32],
@@ -52,11 +54,11 @@ fn dot_before<const M: usize>(fir: &[i32; M], line: &[i32], i: usize) -> i32
     wrapped_dot(fir, &line[8 + i - M..8 + i])
 }
 
-/// Value `i` of the block less its prediction by light coefficients, the first for the oldest value.
+/// Value `i` of the block less its prediction by one sum, with coefficients of which the first is for the oldest value.
 #[inline(always)]
-fn light_at<const M: usize>(fir: &[i32; M], shift: u8, whole: &[i32], i: usize) -> i32
-    requires few { M ≤ 4 }
-    requires light { All IsLight fir.now }
+fn short_at<const M: usize>(fir: &[i32; M], shift: u8, whole: &[i32], i: usize) -> i32
+    requires few { M ≤ 8 }
+    requires short { AreShort (reverse fir.now) whole.now }
     requires shift { shift < 16 }
     requires small { All Is26 whole.now }
     requires within { 8 + i < length whole.now }
@@ -93,23 +95,23 @@ fn split_at<const M: usize>(
     whole[8 + i] - ((high_sum + (low_sum >> 13)) >> (shift - 13))
 }
 
-/// Puts what light coefficients leave of the block.
+/// Puts what coefficients leave of the block, by one sum for each value.
 #[inline(always)]
-pub(crate) fn reduce_light<const M: usize>(
+pub(crate) fn reduce_short<const M: usize>(
     fir: &[i32; M],
     shift: u8,
     whole: &[i32],
     values: &mut [i32],
 )
-    requires few { M ≤ 4 }
-    requires light { All IsLight fir.now }
+    requires few { M ≤ 8 }
+    requires short { AreShort (reverse fir.now) whole.now }
     requires shift { shift < 16 }
     requires small { All Is26 whole.now }
     requires room { length whole.now ≡ 8 + length values.old }
     ensures { values.new ≡ left_in (filters_in fir.now [] shift) whole.now }
 {
     for i in 0..values.len() {
-        values[i] = light_at(fir, shift, whole, i);
+        values[i] = short_at(fir, shift, whole, i);
     }
 }
 
@@ -150,19 +152,19 @@ fn taps_of<const M: usize>(coeffs: &[i32]) -> [i32; M]
     taps
 }
 
-/// Puts what `M` light coefficients leave of the block.
+/// Puts what `M` coefficients leave of the block, by one sum for each value.
 #[inline(always)]
-fn put_light<const M: usize>(coeffs: &[i32], shift: u8, whole: &[i32], values: &mut [i32])
-    requires few { M ≤ 4 }
+fn put_short<const M: usize>(coeffs: &[i32], shift: u8, whole: &[i32], values: &mut [i32])
+    requires few { M ≤ 8 }
     requires count { length coeffs.now ≡ M }
-    requires light { All IsLight coeffs.now }
+    requires short { AreShort coeffs.now whole.now }
     requires shift { shift < 16 }
     requires small { All Is26 whole.now }
     requires room { length whole.now ≡ 8 + length values.old }
     ensures { values.new ≡ left_in (alone_by coeffs.now shift) whole.now }
 {
     let taps: [i32; M] = taps_of(coeffs);
-    reduce_light(&taps, shift, whole, values);
+    reduce_short(&taps, shift, whole, values);
 }
 
 /// Puts what `M` coefficients of 16 bits leave of the block.
@@ -200,11 +202,34 @@ fn put_any_light(coeffs: &[i32], shift: u8, whole: &[i32], values: &mut [i32])
     ensures { values.new ≡ left_in (alone_by coeffs.now shift) whole.now }
 {
     match coeffs.len() {
-        0 => put_light::<0>(coeffs, shift, whole, values),
-        1 => put_light::<1>(coeffs, shift, whole, values),
-        2 => put_light::<2>(coeffs, shift, whole, values),
-        3 => put_light::<3>(coeffs, shift, whole, values),
-        _ => put_light::<4>(coeffs, shift, whole, values),
+        0 => put_short::<0>(coeffs, shift, whole, values),
+        1 => put_short::<1>(coeffs, shift, whole, values),
+        2 => put_short::<2>(coeffs, shift, whole, values),
+        3 => put_short::<3>(coeffs, shift, whole, values),
+        _ => put_short::<4>(coeffs, shift, whole, values),
+    }
+}
+
+/// Puts what at most 8 coefficients leave of the block, by one sum for each value.
+#[inline(never)]
+fn put_any_short(coeffs: &[i32], shift: u8, whole: &[i32], values: &mut [i32])
+    requires few { length coeffs.now ≤ 8 }
+    requires short { AreShort coeffs.now whole.now }
+    requires shift { shift < 16 }
+    requires small { All Is26 whole.now }
+    requires room { length whole.now ≡ 8 + length values.old }
+    ensures { values.new ≡ left_in (alone_by coeffs.now shift) whole.now }
+{
+    match coeffs.len() {
+        0 => put_short::<0>(coeffs, shift, whole, values),
+        1 => put_short::<1>(coeffs, shift, whole, values),
+        2 => put_short::<2>(coeffs, shift, whole, values),
+        3 => put_short::<3>(coeffs, shift, whole, values),
+        4 => put_short::<4>(coeffs, shift, whole, values),
+        5 => put_short::<5>(coeffs, shift, whole, values),
+        6 => put_short::<6>(coeffs, shift, whole, values),
+        7 => put_short::<7>(coeffs, shift, whole, values),
+        _ => put_short::<8>(coeffs, shift, whole, values),
     }
 }
 
@@ -257,12 +282,69 @@ fn are_light(coeffs: &[i32]) -> bool
     true
 }
 
+/// How far a value is from 0.
+#[inline]
+fn distance(value: &i32) -> u32
+    ensures value { result ≡ unsigned_abs value.now }
+    ensures few { result ≤ 2147483648 }
+{
+    value.unsigned_abs()
+}
+
+/// The sum of the sizes of coefficients.
+fn size_of(coeffs: &[i32]) -> u64
+    requires few { length coeffs.now ≤ 8 }
+    requires small_coeffs { All IsCoefficient coeffs.now }
+    ensures value { result ≡ sizes coeffs.now }
+    ensures few { result ≤ 262144 }
+{
+    let mut sum: u64 = 0;
+    for coeff in coeffs {
+        sum += u64::from(distance(coeff));
+    }
+    sum
+}
+
+/// Whether no sum of values of the line, times these coefficients, is too far from 0 for 32 bits.
+fn are_short(coeffs: &[i32], line: &Line<'_>) -> bool
+    requires few { length coeffs.now ≤ 8 }
+    requires small_coeffs { All IsCoefficient coeffs.now }
+    requires near { AreNear line.now.far line.now.whole.now }
+    ensures { IsTrue result → AreShort coeffs.now line.now.whole.now }
+{
+    if size_of(coeffs) * u64::from(line.far) > 2013265920 {
+        return false;
+    }
+    true
+}
+
+/// Puts what coefficients of 16 bits leave of the block, by one sum for each value where that serves.
+#[inline(always)]
+fn put_any(coeffs: &[i32], shift: u8, line: &Line<'_>, values: &mut [i32])
+    requires few { length coeffs.now ≤ 8 }
+    requires small_coeffs { All IsCoefficient coeffs.now }
+    requires least_shift { 13 ≤ shift }
+    requires most_shift { shift < 16 }
+    requires near { AreNear line.now.far line.now.whole.now }
+    requires small { All Is26 line.now.whole.now }
+    requires high_parts { line.now.high.now ≡ map (floor_by 13) line.now.whole.now }
+    requires low_parts { line.now.low.now ≡ map low_part line.now.whole.now }
+    requires room { length line.now.whole.now ≡ 8 + length values.old }
+    ensures { values.new ≡ left_in (alone_by coeffs.now shift) line.now.whole.now }
+{
+    if are_short(coeffs, line) {
+        return put_any_short(coeffs, shift, line.whole, values);
+    }
+    put_any_split(coeffs, shift, line.whole, line.high, line.low, values);
+}
+
 /// Puts what a FIR leaves of the block, where its coefficients are light or its shift is at least 13; else false.
 #[inline(always)]
 fn reduce_by(coeffs: &[i32], shift: u8, line: &Line<'_>, values: &mut [i32]) -> bool
     requires few { length coeffs.now ≤ 8 }
     requires small_coeffs { All IsCoefficient coeffs.now }
     requires shift { shift < 16 }
+    requires near { AreNear line.now.far line.now.whole.now }
     requires small { All Is26 line.now.whole.now }
     requires high_parts { line.now.high.now ≡ map (floor_by 13) line.now.whole.now }
     requires low_parts { line.now.low.now ≡ map low_part line.now.whole.now }
@@ -281,7 +363,7 @@ fn reduce_by(coeffs: &[i32], shift: u8, line: &Line<'_>, values: &mut [i32]) -> 
     if shift < 13 {
         return false;
     }
-    put_any_split(coeffs, shift, line.whole, line.high, line.low, values);
+    put_any(coeffs, shift, line, values);
     true
 }
 
@@ -290,6 +372,7 @@ fn reduce_by(coeffs: &[i32], shift: u8, line: &Line<'_>, values: &mut [i32]) -> 
 pub(crate) fn reduce_in(pair: &PairRef<'_>, line: &Line<'_>, values: &mut [i32]) -> bool
     requires filters { AreFilters pair.now.fir pair.now.iir }
     requires room { length line.now.whole.now ≡ 8 + length values.old }
+    requires near { AreNear line.now.far line.now.whole.now }
     requires small { All Is26 line.now.whole.now }
     requires high_parts { line.now.high.now ≡ map (floor_by 13) line.now.whole.now }
     requires low_parts { line.now.low.now ≡ map low_part line.now.whole.now }
@@ -382,6 +465,17 @@ fn put_low(whole: &[i32], low: &mut [i32])
     for i in 0..low.len() {
         low[i] = low_part(whole[i]);
     }
+}
+
+/// How far the values are from 0 at the most.
+pub(crate) fn far_of(values: &[i32]) -> u32
+    ensures { AreNear result values.now }
+{
+    let mut far: u32 = 0;
+    for value in values {
+        far = far.max(distance(value));
+    }
+    far
 }
 
 /// Puts a block in one line behind the latest outputs, where these are narrow; else false.

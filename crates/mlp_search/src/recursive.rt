@@ -11,7 +11,7 @@ ghost use Rattle.mlp_search.specs.Candidates.{past_for, residuals_for};
 ghost use Rattle.mlp_search.specs.Folded.{stepped};
 ghost use Rattle.mlp_search.specs.Lines.{IsIn, halving, excesses};
 
-use crate::line::{Line, reduce_light};
+use crate::line::{Line, reduce_short};
 use crate::pair::PairRef;
 use mlp_predict::Predictor;
 use mlp_syntax::Filter;
@@ -115,7 +115,7 @@ fn put_halved<const M: usize>(
         map (stepped step) values.new ≡ residuals_of (halving (reverse taps.now)) past step samples }
     ensures fits { All (FitsSigned w32) (map (stepped step) values.new) }
 {
-    reduce_light(taps, 0, line.whole, values);
+    reduce_short(taps, 0, line.whole, values);
     halve(step, excess, values);
     put_left(step, values);
 }

@@ -16,7 +16,7 @@ ghost use Rattle.mlp_search.specs.Least.{IsWithinFirst, is_better, least_from, w
 ghost use Rattle.mlp_search.specs.Trial.{IsWriting};
 
 use crate::choice::Choice;
-use crate::line::{Line, put_line};
+use crate::line::{Line, far_of, put_line};
 use crate::pair::{PairRef, in_table, without};
 use crate::reduction::values_for;
 use crate::trial::{Writing, trial_of, writing_of};
@@ -346,6 +346,7 @@ fn best_of(
     let narrow = put_line(history, step, samples, whole, high, low);
     let line = Line {
         narrow,
+        far: far_of(whole),
         whole,
         high,
         low,

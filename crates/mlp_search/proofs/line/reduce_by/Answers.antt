@@ -13,5 +13,5 @@ returns-then-are_light-clause-fits c =
 pub returns-clause-fits : goal.returns-clause-fits
 returns-clause-fits c =
     λ t q few small.
-    subst (λ (vs : List ℤ). All (FitsSigned w32) (map (stepped q) vs)) (sym c.put_any_split.ensures)
+    subst (λ (vs : List ℤ). All (FitsSigned w32) (map (stepped q) vs)) (sym c.put_any.ensures)
     (split_fit c.args.coeffs.now c.args.shift q c.args.line.now.whole.now c.requires.few (omega (arith, c.if-shift-lt13.false)) few c.requires.small_coeffs small)

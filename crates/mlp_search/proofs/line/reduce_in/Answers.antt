@@ -32,6 +32,6 @@ returns-clause-value c =
       | else-is_empty w ↦ w.shift-is ∙ ap (λ (f : Filter 8). f.shift) fir_is
     ])
     in
-    block_is c.args.pair.now step past samples c.args.line.now.whole.now c.args.line.now.high.now c.args.line.now.low.now n c.if-is_empty.shift c.reduce_by.new.values is
+    block_is c.args.pair.now step past samples c.args.line.now.whole.now c.args.line.now.high.now c.args.line.now.low.now n c.if-is_empty.shift c.reduce_by.new.values is.parts
     (omega (arith, c.if-pair-gt0.false, ap (λ (f : Filter 8). f.coeff_shift) fir_is)) (sym none) at
     (c.reduce_by.ensures.value t ∙ ap (λ (cs : List ℤ). left_in (alone_by cs c.if-is_empty.shift) c.args.line.now.whole.now) same)

@@ -23,7 +23,10 @@ returns-in-Some-clause-value c =
     let same : c.as_slice.result.now ≡ c.args.pair.now.fir.coeffs.items = c.as_slice.ensures.value ∙ ap (λ (f : Filter 8). f.coeffs.items) fir_is in
     let some : 0 < length c.args.pair.now.fir.coeffs.items = omega (arith, c.reduce_beside.ensures.some t, ap (λ (cs : List ℤ). length cs) same) in
     c.reduce_beside.ensures.value t past samples (drop 1 c.args.history.now.differences)
-    (record { eight = is.eight; steps = is.steps; small = is.small; words = is.words; high_parts = is.high_parts; low_parts = is.low_parts })
+    (record {
+      parts = record { eight = is.parts.eight; steps = is.parts.steps; small = is.parts.small; words = is.parts.words; high_parts = is.parts.high_parts; low_parts = is.parts.low_parts };
+      near = is.near;
+    })
     (seen ∙ ap (λ (g : ℤ). neg_ℤ g ∷ drop 1 c.args.history.now.differences) (sym (to_z-of_z w32 c.in-Some.excess (small_fits c.in-Some.excess c.in-Some.ensures.few))))
     ∙ ap (λ (cs : List ℤ). residuals_of (record { fir = cs; iir = neg_ℤ (pos 2) ∷ []; shift = 2 }) past c.args.step samples) same
     ∙ ap (λ (f : Filters). residuals_of f past c.args.step samples) (sym (filters_are pair shift fir iir coeffs some))

@@ -14,25 +14,28 @@ count_steps-requires-clause-whole c =
 
 pub reduce_in-requires-clause-room : goal.reduce_in-requires-clause-room
 reduce_in-requires-clause-room c =
-    let is = c.requires.line c.if-line.true in
+    let is = (c.requires.line c.if-line.true).parts in
     omega (arith, line_length c.args.step c.args.history.now c.args.samples.now c.args.line.now.whole.now c.args.line.now.high.now c.args.line.now.low.now is, c.requires.room)
 
 pub reduce_in-requires-clause-small : goal.reduce_in-requires-clause-small
-reduce_in-requires-clause-small c = (c.requires.line c.if-line.true).words
+reduce_in-requires-clause-small c = (c.requires.line c.if-line.true).parts.words
 
 pub reduce_in-requires-clause-high_parts : goal.reduce_in-requires-clause-high_parts
-reduce_in-requires-clause-high_parts c = (c.requires.line c.if-line.true).high_parts
+reduce_in-requires-clause-high_parts c = (c.requires.line c.if-line.true).parts.high_parts
 
 pub reduce_in-requires-clause-low_parts : goal.reduce_in-requires-clause-low_parts
-reduce_in-requires-clause-low_parts c = (c.requires.line c.if-line.true).low_parts
+reduce_in-requires-clause-low_parts c = (c.requires.line c.if-line.true).parts.low_parts
 
 pub reduce_recursive-requires-clause-room : goal.reduce_recursive-requires-clause-room
 reduce_recursive-requires-clause-room c =
-    let is = c.requires.line c.if-line.true in
+    let is = (c.requires.line c.if-line.true).parts in
     omega (arith, line_length c.args.step c.args.history.now c.args.samples.now c.args.line.now.whole.now c.args.line.now.high.now c.args.line.now.low.now is, c.requires.room)
 
 pub reduce_recursive-requires-clause-words : goal.reduce_recursive-requires-clause-words
-reduce_recursive-requires-clause-words c = (c.requires.line c.if-line.true).words
+reduce_recursive-requires-clause-words c = (c.requires.line c.if-line.true).parts.words
 
 pub reduce_recursive-requires-clause-small : goal.reduce_recursive-requires-clause-small
-reduce_recursive-requires-clause-small c = (c.requires.line c.if-line.true).small
+reduce_recursive-requires-clause-small c = (c.requires.line c.if-line.true).parts.small
+
+pub reduce_in-requires-clause-near : goal.reduce_in-requires-clause-near
+reduce_in-requires-clause-near c = (c.requires.line c.if-line.true).near

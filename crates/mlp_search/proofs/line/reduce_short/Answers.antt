@@ -1,6 +1,6 @@
 use Rattle.std.proofs.Common.{reverse, arith}
 use Rattle.mlp_search.proofs.LineLaws.{block_left}
-use Rattle.mlp_search.proofs.line.reduce_light.Goals as goal
+use Rattle.mlp_search.proofs.line.reduce_short.Goals as goal
 
 pub returns : goal.returns
 returns g c =
