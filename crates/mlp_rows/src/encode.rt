@@ -1,8 +1,7 @@
 //! The commands that encode.
 use crate::decode_wav::SILENCE;
 use crate::runs::{Edge, WHOLE, assert_run, run_over};
-use crate::streams::{ENDED, RAMPS, next_state, ramp_samples, repeated};
-use std::alloc::{AllocError, Global};
+use crate::streams::{ENDED, RAMPS, noise, ramp_samples, repeated};
 use std::test::Fail;
 
 const WORDS: &str = "encode-raw --format truehd --rate 48000 --channels 2 --bits 24";
@@ -161,6 +160,7 @@ fn refuses_a_header_by_its_field(rt: HostRuntime) -> Result<(), Fail> {
         (0, 0x52, 11, "pcm refused: WaveHeader Riff\n"),
         (0, 0x52, 43, "pcm refused: WaveHeader Chunk\n"),
         (12, 0x67, 74, "pcm refused: WaveHeader FmtMissing\n"),
+        (20, 0x02, 74, "pcm refused: WaveHeader Tag\n"),
         (16, 0x26, 74, "pcm refused: WaveHeader FmtSize\n"),
         (44, 0x03, 74, "pcm refused: WaveHeader Tag\n"),
         (34, 0x21, 74, "pcm refused: WaveHeader Bits\n"),
@@ -184,18 +184,6 @@ fn refuses_a_header_by_its_field(rt: HostRuntime) -> Result<(), Fail> {
         )?;
     }
     Ok(())
-}
-
-/// So many bytes of noise in samples of 24 bits, by a generator of 32 bits.
-fn noise(alloc: Global, samples: usize) -> Result<Vec<u8>, AllocError> {
-    let mut pcm = Vec::new(alloc);
-    let mut state: u32 = 1;
-    for _ in 0..samples {
-        state = next_state(state);
-        let bytes = ((state >> 8) ^ 0x80_0000).to_le_bytes();
-        pcm.extend_from_slice(&bytes[..3])?;
-    }
-    Ok(pcm)
 }
 
 /// Noise in six channels is more than either format carries at these rates, so in the end a unit has no place.

@@ -33,6 +33,12 @@ fn sum_of(bytes: &[u8]) -> u32 {
     sum
 }
 
+/// Whether these bytes stand somewhere in a text.
+fn has(text: &[u8], wanted: &[u8]) -> bool {
+    text.windows(wanted.len().max(1))
+        .any(|piece| piece == wanted)
+}
+
 /// Its numbers are those of what the other commands write: the stream of the same PCM, its presentations and what is
 /// extracted for them.
 #[test]
@@ -65,5 +71,39 @@ fn tells_what_the_other_commands_write(rt: HostRuntime) -> Result<(), Fail> {
     let told = run_over(alloc, words, &[], &WHOLE)?;
     assert_eq!(rt; told.status, 0);
     assert_eq!(rt; told.output.as_slice(), text.as_bytes());
+    Ok(())
+}
+
+/// The text of a seed's PCM in six channels at 96 kHz, without the bytes of the streams, and the sum of the higher
+/// presentation, which is that of the PCM.
+#[test]
+fn tells_the_sum_of_the_pcm(rt: HostRuntime) -> Result<(), Fail> {
+    let alloc = rt.alloc();
+    let pcm = pcm_of(alloc, 1, 48_000)?;
+    let words =
+        "gen --format truehd --rate 96000 --channels 6 --bits 24 --mix fold --units 600 --seed 1";
+    let told = run_over(alloc, words, &[], &WHOLE)?;
+    assert_eq!(rt; told.status, 0);
+    let wanted = format!(in alloc;
+        "presentation 1 channels 6 frames 48000 sum {}\n",
+        sum_of(&pcm)
+    )?;
+    assert_eq!(rt; has(&told.output, wanted.as_bytes()), true);
+    let wanted: [&[u8]; 3] = [
+        b"pcm 864000\n",
+        b"presentation 0 channels 2 frames 48000 sum ",
+        b"units 600\n",
+    ];
+    for line in wanted {
+        assert_eq!(rt; has(&told.output, line), true);
+    }
+    let words =
+        "gen --format truehd --rate 192000 --channels 6 --bits 20 --mix fold --units 20 --seed 1";
+    let told = run_over(alloc, words, &[], &WHOLE)?;
+    assert_eq!(rt; told.status, 0);
+    let wanted: [&[u8]; 2] = [b"pcm 57600\n", b"units 20\n"];
+    for line in wanted {
+        assert_eq!(rt; has(&told.output, line), true);
+    }
     Ok(())
 }

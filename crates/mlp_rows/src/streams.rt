@@ -133,3 +133,15 @@ pub fn ramp_samples(alloc: Global) -> Result<Vec<u8>, AllocError> {
     }
     Ok(samples)
 }
+
+/// So many samples of noise with 24 bits, by a generator of numbers of 32 bits.
+pub fn noise(alloc: Global, samples: usize) -> Result<Vec<u8>, AllocError> {
+    let mut pcm = Vec::new(alloc);
+    let mut state: u32 = 1;
+    for _ in 0..samples {
+        state = next_state(state);
+        let bytes = ((state >> 8) ^ 0x80_0000).to_le_bytes();
+        pcm.extend_from_slice(&bytes[..3])?;
+    }
+    Ok(pcm)
+}
